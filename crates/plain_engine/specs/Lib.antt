@@ -1,0 +1,7 @@
+pub mod Below
+pub mod Cells
+pub mod Parts
+pub mod Places
+pub mod Stored
+pub mod Sweep
+pub mod Writing

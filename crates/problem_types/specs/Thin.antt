@@ -1,0 +1,111 @@
+-- Thin problems: one level of one patch, one variable, and one task in each list.
+use Rattle.std.specs.Prelude.{ℕ, ℤ, pos, neg_ℤ, ◌≡◌, ◌*◌, ◌^◌, ◌≤◌, ◌≤ℤ◌, ◌<ℤ◌, List, [], ◌∷◌, fold, length, All, codes, slice_index, slice_index_or}
+use Rattle.std.specs.Prelude.{FitsSigned}
+use Rattle.std.specs.Int.{w64}
+use Rattle.kernel_ast.specs.declared.expression.Store.TheVariants.{Old as OldStore}
+use Rattle.kernel_ast.specs.declared.expression.How.TheVariants.{Same}
+use Rattle.kernel_ast.specs.declared.expression.Op.TheVariants.{Add}
+use Rattle.kernel_ast.specs.declared.expression.Expr.{Expr}
+use Rattle.kernel_ast.specs.declared.expression.Expr.TheVariants.{Literal as Constant, Read as Reading, Binary}
+use Rattle.problem_types.specs.declared.problem.Centring.TheVariants.{Cell}
+use Rattle.problem_types.specs.declared.problem.GhostKind.TheVariants.{Cells}
+use Rattle.problem_types.specs.declared.problem.What.TheVariants.{Same as OnLevel}
+use Rattle.problem_types.specs.declared.problem.WriteKind.TheVariants.{Computes}
+use Rattle.problem_types.specs.declared.problem.Problem.{Problem}
+use Rattle.problem_types.specs.declared.problem.Level.{Level}
+use Rattle.problem_types.specs.declared.problem.Task.{Task}
+use Rattle.problem_types.specs.declared.thin.Term.{Term}
+use Rattle.problem_types.specs.declared.thin.Term.TheVariants.{Literal, Old}
+use Rattle.problem_types.specs.declared.thin.Thin.{Thin}
+
+abbrev pub term_expression : Term → Expr
+term_expression (Literal n) = Constant n
+term_expression (Old offset) = Reading (record { store = OldStore; how = Same; name = 0; offset = offset })
+
+-- the terms added up from the left, after a first summand
+abbrev pub plus_terms : Expr → List Term → Expr
+plus_terms first terms = fold (λ sum term. Binary Add sum (term_expression term)) first terms
+
+abbrev pub sum_expression : List Term → Expr
+sum_expression [] = Constant (pos 0)
+sum_expression (term ∷ terms) = plus_terms (term_expression term) terms
+
+-- an offset reaches at most so many cells
+abbrev pub Reaches : ℕ → ℤ → Type 0
+Reaches n by = (neg_ℤ (pos n) ≤ℤ by) × (by ≤ℤ pos n)
+
+abbrev pub IsThinTerm : ℕ → Term → Type 0
+IsThinTerm ghost_cells (Literal n) = (pos 0 ≤ℤ n) × (n <ℤ pos (2 ^ 63))
+IsThinTerm ghost_cells (Old offset) = (length offset ≡ 3) × Reaches ghost_cells (slice_index_or offset 0 (pos 0))
+    × Reaches ghost_cells (slice_index_or offset 1 (pos 0)) × Reaches ghost_cells (slice_index_or offset 2 (pos 0))
+
+abbrev pub IsThinSize : ℕ → Type 0
+IsThinSize n = (1 ≤ n) × (n ≤ 4096)
+
+-- the limits of a thin problem
+pub record IsThin (t : Thin) : Type 0 where
+  pub steps : t.steps ≤ 65535
+  pub some_ghost_cells : 1 ≤ t.ghost_cells
+  pub few_ghost_cells : t.ghost_cells ≤ 8
+  pub axes : length t.size ≡ 3
+  pub along_x : IsThinSize (slice_index t.size 0)
+  pub along_y : IsThinSize (slice_index t.size 1)
+  pub along_z : IsThinSize (slice_index t.size 2)
+  pub cells : slice_index t.size 0 * slice_index t.size 1 * slice_index t.size 2 ≤ 262144
+  pub outside : FitsSigned w64 t.outside
+  pub start : (pos 0 ≤ℤ t.start) × (t.start <ℤ pos (2 ^ 63))
+  pub some_terms : 1 ≤ length t.terms
+  pub few_terms : length t.terms ≤ 64
+  pub terms : All (IsThinTerm t.ghost_cells) t.terms
+
+abbrev pub thin_level : List ℕ → Level
+thin_level size = record {
+  line = 6;
+  ratio = 1;
+  boxes = record { line = 7; lo = 0 ∷ 0 ∷ 0 ∷ []; hi = size } ∷ [];
+  patches = record { line = 8; lo = 0 ∷ 0 ∷ 0 ∷ []; hi = size } ∷ [];
+}
+
+abbrev pub thin_start : ℤ → Task
+thin_start start = record {
+  line = 11;
+  name = 1;
+  levels = 0 ∷ [];
+  materials = 0 ∷ [];
+  requirements = [];
+  writes = record { line = 12; kind = Computes; name = 0; expr = Constant start } ∷ [];
+}
+
+abbrev pub thin_shift : ℕ → List Term → Task
+thin_shift ghost_cells terms = record {
+  line = 14;
+  name = 2;
+  levels = 0 ∷ [];
+  materials = 0 ∷ [];
+  requirements = record { line = 15; store = OldStore; what = OnLevel 0 (record { kind = Cells; n = ghost_cells }) } ∷ [];
+  writes = record { line = 16; kind = Computes; name = 0; expr = sum_expression terms } ∷ [];
+}
+
+-- the problem of a thin text, its statements on lines 1 to 18
+abbrev pub thin_problem : Thin → Problem
+thin_problem t = record {
+  names = codes "u" ∷ codes "start" ∷ codes "shift" ∷ [];
+  version = record { line = 1; value = 1 };
+  steps = record { line = 2; value = t.steps };
+  dump = record { line = 3; value = 1 };
+  ghost_limit = record { line = 4; value = t.ghost_cells };
+  materials = record { line = 5; value = 1 };
+  levels = thin_level t.size ∷ [];
+  vars = record { line = 9; name = 0; centring = Cell; outside = t.outside } ∷ [];
+  reductions = [];
+  init_line = 10;
+  init = thin_start t.start ∷ [];
+  timestep_line = 13;
+  timestep = thin_shift t.ghost_cells t.terms ∷ [];
+  keeps = record { line = 17; name = 0 } ∷ [];
+  end_line = 18;
+}
+
+-- the problem is that of a thin text
+abbrev pub IsThinProblem : Problem → Type 0
+IsThinProblem p = (t : Thin) × IsThin t × (p ≡ thin_problem t)

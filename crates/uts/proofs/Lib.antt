@@ -1,0 +1,5 @@
+pub mod OneProblem
+pub mod Spelling
+pub mod Statuses
+pub mod Terms
+pub mod Told

@@ -1,0 +1,46 @@
+//! Runs simulation components given as task graphs: reads a problem, and writes its dump.
+#![tactic(auto)]
+
+mod failure;
+mod plain;
+#[cfg(test)]
+mod tests;
+mod thin_text;
+mod top;
+
+use failure::Failure;
+use std::alloc::AllocError;
+use std::process::ExitCode;
+use std::rt::Env;
+use std::{env, io};
+use top::{quiet_top, report};
+use uts_io::{StdSink, StdSource};
+
+/// The words of the command line, without the program's name. Words that are not text are no command, as
+/// no words are.
+fn words(rt: &(impl Env + AllocGlobal)) -> Result<Vec<String>, AllocError> {
+    match env::args(rt) {
+        Ok(args) => args.skip(1).collect(rt.alloc()),
+        Err(error) if error.kind() == io::ErrorKind::OutOfMemory => Err(AllocError),
+        Err(_) => Ok(Vec::new(rt.alloc())),
+    }
+}
+
+fn main(rt: HostRuntime) -> ExitCode {
+    let mut out = StdSink::new(rt.stdout());
+    let mut err = StdSink::new(rt.stderr());
+    let status = match words(&rt) {
+        Ok(words) => {
+            let mut source = StdSource::new(rt.stdin());
+            quiet_top(
+                rt.alloc(),
+                words.as_slice(),
+                &mut source,
+                &mut out,
+                &mut err,
+            )
+        }
+        Err(_) => report(&mut err, Failure::NoMemory),
+    };
+    ExitCode::from(status)
+}

@@ -1,0 +1,91 @@
+ghost use Rattle.std.specs.Prelude.{◌≡◌, ◌⊎◌, ◌≤◌, ◌↔◌, ℕ, List, [], IsTrue, IfSome, codes};
+ghost use Rattle.uts_io.specs.Streams.{Rose, grown, GrewByPrefix, IsAtEnd};
+ghost use Rattle.uts.specs.Answer.{IsPlain, Answers, ErrorLine};
+ghost use Rattle.uts.specs.Failures.{IsTold};
+
+use crate::failure::Failure;
+use crate::plain::plain;
+use std::alloc::Global;
+use uts_io::{Sink, Source, write_all};
+
+fn says_plain(word: &str) -> bool
+    ensures { IsTrue result ↔ (word.now ≡ codes "plain") }
+{
+    word == "plain"
+}
+
+/// Whether the words are the command `plain`.
+fn is_plain(words: &[String]) -> bool
+    ensures { IsTrue result ↔ IsPlain words.now }
+{
+    match words.first() {
+        Some(word) => words.len() == 1 && says_plain(word.as_str()),
+        None => false,
+    }
+}
+
+/// Tells a failure on standard error, and gives the status of the program.
+pub fn report<E: Sink>(err: &mut E, failure: Failure) -> u8
+    ensures told { IsTold failure E.after (E.taken err.old) (E.taken err.new) (E.faults err.old) (E.faults err.new) result }
+    ensures never_falls { E.faults err.old ≤ E.faults err.new }
+{
+    match write_all(err, failure.line()) {
+        Ok(()) => failure.status(),
+        Err(_) => failure.status_after_fault(),
+    }
+}
+
+/// Does what the words ask, and gives the status of the program.
+pub fn quiet_top<R: Source, O: Sink, E: Sink>(
+    alloc: Global,
+    words: &[String],
+    source: &mut R,
+    out: &mut O,
+    err: &mut E,
+) -> u8
+    ensures statuses { result ≤ 5 }
+
+    // Words that are no command.
+    ensures usage { (IsPlain words.now → ⊥) → (result ≡ 2) ⊎ ((result ≡ 4) × Rose (E.faults err.old) (E.faults err.new)) }
+    ensures usage_only { result ≡ 2 → IsPlain words.now → ⊥ }
+    ensures nothing_read { (IsPlain words.now → ⊥) → source.new ≡ source.old }
+
+    // Done: the source was read to its end, and the bytes for its text were written.
+    ensures ended { result ≡ 0 → IsAtEnd (R.left source.new) }
+    ensures done { result ≡ 0 → IfSome (R.left source.old) (λ text. (bytes : List ℕ) × Answers words.now text 0 bytes
+        × (O.taken out.new ≡ grown O.after (O.taken out.old) bytes)) }
+
+    // The cause of each other status.
+    ensures refused { result ≡ 1 → IfSome (R.left source.old) (λ text. Answers words.now text 1 []) }
+    ensures read_fault { result ≡ 3 → Rose (R.faults source.old) (R.faults source.new) }
+    ensures write_fault { result ≡ 4 → Rose (O.faults out.old) (O.faults out.new) ⊎ Rose (E.faults err.old) (E.faults err.new) }
+
+    // What stands on standard output: nothing at 1, 2 and 3, and always a prefix of the bytes for the text.
+    ensures unwritten { (result ≡ 1) ⊎ (result ≡ 2) ⊎ (result ≡ 3) → O.taken out.new ≡ O.taken out.old }
+    ensures prefix { IfSome (R.left source.old) (λ text. (status : ℕ) (bytes : List ℕ) → Answers words.now text status bytes
+        → GrewByPrefix O.after (O.taken out.old) (O.taken out.new) bytes) }
+
+    // What stands on standard error: the line of the status, or where it failed a prefix of that line or of the
+    // line that could not be told.
+    ensures told { (Rose (E.faults err.old) (E.faults err.new) → ⊥) → (line : List ℕ) × ErrorLine (R.left source.old) result line
+        × (E.taken err.new ≡ grown E.after (E.taken err.old) line) }
+    ensures told_in_part { (status : ℕ) × (line : List ℕ) × ErrorLine (R.left source.old) status line
+        × ((status ≡ result) ⊎ ((result ≡ 4) × ((status ≡ 1) ⊎ (status ≡ 2))))
+        × GrewByPrefix E.after (E.taken err.old) (E.taken err.new) line }
+
+    // Where no count of faults rose, the status is that of the text, or memory ran out.
+    ensures completed { IfSome (R.left source.old) (λ text. (bytes : List ℕ) → Answers words.now text 0 bytes
+        → (Rose (R.faults source.old) (R.faults source.new) → ⊥) → (Rose (O.faults out.old) (O.faults out.new) → ⊥)
+        → (Rose (E.faults err.old) (E.faults err.new) → ⊥) → (result ≡ 0) ⊎ (result ≡ 5)) }
+    ensures completed_refusal { IfSome (R.left source.old) (λ text. Answers words.now text 1 []
+        → (Rose (R.faults source.old) (R.faults source.new) → ⊥) → (Rose (E.faults err.old) (E.faults err.new) → ⊥)
+        → (result ≡ 1) ⊎ (result ≡ 5)) }
+{
+    if !is_plain(words) {
+        return report(err, Failure::Usage);
+    }
+    match plain(alloc, source, out) {
+        Ok(()) => 0,
+        Err(failure) => report(err, failure),
+    }
+}

@@ -1,0 +1,6 @@
+pub mod Lines
+pub mod Lexemes
+pub mod Tokens
+pub mod Names
+pub mod Words
+pub mod Spelling
