@@ -1,11 +1,11 @@
 -- What a status says, whatever failure it stands for.
-use Rattle.std.proofs.Common.{◌≡◌, ◌⊎◌, inl, inr, ◌≤◌, ◌^◌, ℕ, List, [], ◌∷◌, length, map, slice_get, string_bytes, Option, None, Some, IfSome, String, ap, sym, refl, subst, arith}
+use Rattle.std.proofs.Common.{◌≡◌, ◌⊎◌, inl, inr, ◌<◌, ◌≤◌, ◌^◌, ℕ, List, [], ◌∷◌, length, map, slice_get, string_bytes, Option, None, Some, IfSome, String, ap, sym, refl, subst, arith}
 use Rattle.std.specs.declared.alloc.Global.{Global}
 use Rattle.uts_io.specs.Streams.{Rose, grown, grown-nil, GrewByPrefix, NoneChangeNothing, prefix_of_all, prefix_of_nothing}
 use Rattle.problem_types.specs.Dump.{dump_text}
 use Rattle.problem_types.specs.declared.problem.Problem.{Problem}
 use Rattle.uts.specs.Answer.{IsPlain, IsTooLong, IsNotYet, IsRefused, Answers, usage, refusal, dump, ErrorLine, none, too_long, not_yet, read_fault, write_fault, no_memory}
-use Rattle.uts.specs.Failures.{status_of, line_of, IsTold, IsReason}
+use Rattle.uts.specs.Failures.{status_of, status_after_fault, line_of, IsTold, IsReason}
 use Rattle.uts.specs.ThinText.{Spells}
 use Rattle.uts.specs.declared.failure.Failure.{Failure}
 use Rattle.uts.specs.declared.failure.Failure.TheVariants.{Usage, TooLong, NotYet, ReadFault, WriteFault, NoMemory}
@@ -27,13 +27,24 @@ error_line left s o ReadFault reason = read_fault
 error_line left s o WriteFault reason = write_fault
 error_line left s o NoMemory reason = no_memory
 
+-- no failure whose line failed has one of the first statuses
+high_after_fault : (f : Failure) → 2 < status_after_fault f
+high_after_fault Usage = omega arith
+high_after_fault TooLong = omega arith
+high_after_fault NotYet = omega arith
+high_after_fault ReadFault = omega arith
+high_after_fault WriteFault = omega arith
+high_after_fault NoMemory = omega arith
+
 module _ (left : Option (List ℕ)) (f : Failure) (after : List ℕ → List ℕ → List ℕ) (old new : Option (List ℕ)) (before now status : ℕ)
     (is : ErrorLine left (status_of f) (line_of f)) where
-  -- where standard error did not fail, the line stands there
-  pub told_whole : IsTold f after old new before now status → (Rose before now → ⊥) →
+  -- at the first statuses, and where standard error did not fail, the line stands there
+  pub told_whole : IsTold f after old new before now status → (status ≤ 2) ⊎ (Rose before now → ⊥) →
       (line : List ℕ) × ErrorLine left status line × (new ≡ grown after old line)
-  told_whole (inl told) calm = (line_of f, subst (λ n. ErrorLine left n (line_of f)) (sym told.0) is, told.1)
-  told_whole (inr failed) calm = absurd (calm failed.1)
+  told_whole (inl told) why = (line_of f, subst (λ n. ErrorLine left n (line_of f)) (sym told.0) is, told.1)
+  told_whole (inr failed) (inr calm) = absurd (calm failed.1)
+  told_whole (inr failed) (inl few) =
+      let high : 2 < status = subst (λ n. 2 < n) (sym failed.0) (high_after_fault f) in absurd (omega arith)
 
 -- and else a prefix of it, or of the line that could not be told
 pub told_part : (left : Option (List ℕ)) (f : Failure) (after : List ℕ → List ℕ → List ℕ) (old new : Option (List ℕ)) (before now status : ℕ) →

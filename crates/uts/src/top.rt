@@ -65,10 +65,10 @@ pub fn quiet_top<R: Source, O: Sink, E: Sink>(
     ensures prefix { IfSome (R.left source.old) (λ text. (status : ℕ) (bytes : List ℕ) → Answers words.now text status bytes
         → GrewByPrefix O.after (O.taken out.old) (O.taken out.new) bytes) }
 
-    // What stands on standard error: the line of the status, or where it failed a prefix of that line or of the
-    // line that could not be told.
-    ensures told { (Rose (E.faults err.old) (E.faults err.new) → ⊥) → (line : List ℕ) × ErrorLine (R.left source.old) result line
-        × (E.taken err.new ≡ grown E.after (E.taken err.old) line) }
+    // What stands on standard error: the line of the status at 0, 1 and 2, and wherever it did not fail. Where it
+    // failed, it is a prefix of that line, or of the line that could not be told.
+    ensures told { (result ≤ 2) ⊎ (Rose (E.faults err.old) (E.faults err.new) → ⊥) → (line : List ℕ)
+        × ErrorLine (R.left source.old) result line × (E.taken err.new ≡ grown E.after (E.taken err.old) line) }
     ensures told_in_part { (status : ℕ) × (line : List ℕ) × ErrorLine (R.left source.old) status line
         × ((status ≡ result) ⊎ ((result ≡ 4) × ((status ≡ 1) ⊎ (status ≡ 2))))
         × GrewByPrefix E.after (E.taken err.old) (E.taken err.new) line }

@@ -21,7 +21,7 @@ returns-in-Ok-clause-prefix g c =
     prefix_of_answer c.args.words.now plain _ _ g.met.O.Sink.after_none _ _ c.plain.ensures.refused c.plain.ensures.prefix
 
 pub returns-in-Ok-clause-told : goal.returns-in-Ok-clause-told
-returns-in-Ok-clause-told g c = λ calm. nothing_told _ _ g.met.E.Sink.after_none _
+returns-in-Ok-clause-told g c = λ why. nothing_told _ _ g.met.E.Sink.after_none _
 
 pub returns-in-Ok-clause-told_in_part : goal.returns-in-Ok-clause-told_in_part
 returns-in-Ok-clause-told_in_part g c = nothing_told_part _ _ g.met.E.Sink.after_none _
