@@ -323,6 +323,7 @@ fn is_thin_size(size: [u64; 3]) -> bool
 fn is_thin(thin: &Thin) -> bool
     ensures { IsTrue result ↔ IsThin thin.now }
 {
+    // Every i64 may be the number outside.
     let _outside = thin.outside;
     is_thin_header(thin.steps, thin.ghost_cells)
         && is_thin_size(thin.size)
