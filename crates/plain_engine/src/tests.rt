@@ -1,9 +1,11 @@
-//! Numbers of kernels and a dump, counted by hand.
+//! Numbers of kernels and a step, counted by hand.
+use crate::RunFault;
 use crate::evaluate::{Place, evaluate};
 use crate::field::Field;
-use crate::{RunFault, run_plain};
-use problem_types::{Expr, Op, Term, Thin};
-use sqlite_items::{Boxed, Items};
+use crate::step::write_step;
+use crate::sweep::Sweep;
+use problem_types::{Expr, How, Op, Read, Store};
+use sqlite_items::Boxed;
 use std::alloc::{AllocError, Global};
 use std::test::Fail;
 use uts_io::MemSink;
@@ -56,31 +58,40 @@ fn kernels_compute_as_the_arithmetic_says(rt: HostRuntime) -> Result<(), Fail> {
 }
 
 #[test]
-fn a_dump_of_two_rows(rt: HostRuntime) -> Result<(), Fail> {
+fn a_step_of_two_rows(rt: HostRuntime) -> Result<(), Fail> {
     let alloc = rt.alloc();
-    let mut terms = Items::new(alloc);
-    terms.push(Term::Old([0, -1, 0]))?;
-    terms.push(Term::Literal(1))?;
-    let thin = Thin {
-        steps: 1,
-        ghost_cells: 1,
-        size: [2, 2, 1],
+    let below = Expr::Read(Read {
+        store: Store::Old,
+        how: How::Same,
+        name: 0,
+        offset: [0, -1, 0],
+    });
+    let left = Boxed::new(alloc, below)?;
+    let right = Boxed::new(alloc, Expr::Literal(1))?;
+    let kernel = Expr::Binary(Op::Add, left, right);
+    let field = Field {
+        x: 2,
+        y: 2,
+        z: 1,
         outside: -5,
-        start: 3,
-        terms,
+        numbers: &[3, 3, 3, 3],
     };
-    let problem = thin.problem(alloc)?;
+    let sweep = Sweep {
+        kernel: &kernel,
+        step: 1,
+        field: &field,
+    };
+    let mut line = Vec::new(alloc);
     let mut sink = MemSink::new(alloc, 1000, Vec::new(alloc))?;
-    run_plain(alloc, &problem, &mut sink)?;
+    let numbers = write_step(alloc, b"u", &sweep, &mut line, &mut sink)?;
+    assert_eq!(rt; numbers.as_slice(), [-4, -4, 4, 4].as_slice());
     assert_eq!(rt;
         sink.bytes(),
-        b"dump 1\nstep 0\nfield u 0 0 0 0 0 2 2 1\n3 3\n3 3\nstep 1\nfield u 0 0 0 0 0 2 2 1\n-4 -4\n4 4\nend\n".as_slice()
+        b"step 1\nfield u 0 0 0 0 0 2 2 1\n-4 -4\n4 4\n".as_slice()
     );
     let mut full = MemSink::new(alloc, 20, Vec::new(alloc))?;
-    assert_eq!(rt;
-        run_plain(alloc, &problem, &mut full),
-        Err(RunFault::SinkFault)
-    );
-    assert_eq!(rt; full.bytes(), b"dump 1\nstep 0\nfield ".as_slice());
+    let stopped = write_step(alloc, b"u", &sweep, &mut line, &mut full).err();
+    assert_eq!(rt; stopped, Some(RunFault::SinkFault));
+    assert_eq!(rt; full.bytes(), b"step 1\nfield u 0 0 0".as_slice());
     Ok(())
 }
