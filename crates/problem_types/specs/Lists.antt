@@ -1,6 +1,6 @@
 -- The lists of a problem, what its tasks write, and the steps that the dump shows.
 use Rattle.std.specs.Prelude.{ℕ, zero, suc, ℤ, pos, ◌%◌, ◌==◌, Bool, true, false, ◌&&◌, ◌||◌, List, Option}
-use Rattle.std.specs.List.{list_any, find}
+use Rattle.std.specs.List.{list_any, find, position}
 use Rattle.std.specs.Option.{option_map_or}
 use Rattle.problem_types.specs.declared.problem.Problem.{Problem}
 use Rattle.problem_types.specs.declared.problem.Task.{Task}
@@ -61,6 +61,13 @@ variable_named p name = find (λ v. v.name == name) p.vars
 
 abbrev pub reduction_named : Problem → ℕ → Option Reduction
 reduction_named p name = find (λ q. q.name == name) p.reductions
+
+-- the place of the first declaration of a variable, and of a reduction, of this name among those of its kind
+abbrev pub variable_place : Problem → ℕ → Option ℕ
+variable_place p name = position (λ v. v.name == name) p.vars
+
+abbrev pub reduction_place : Problem → ℕ → Option ℕ
+reduction_place p name = position (λ q. q.name == name) p.reductions
 
 -- the number that stands for the variable outside its index space
 abbrev pub outside_of : Problem → ℕ → ℤ

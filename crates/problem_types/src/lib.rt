@@ -1,13 +1,20 @@
 //! Problems as data: the grid, the variables, and the tasks of the two lists with their kernels.
 #![tactic(auto)]
 
+mod copying;
+mod form;
+mod lines;
+mod lookup;
 mod name;
 mod problem;
 #[cfg(test)]
 mod tests;
 mod thin;
 
+pub use copying::copy;
+pub use form::in_form;
 pub use kernel_ast::{Expr, How, Op, Read, Store};
+pub use lookup::{reduction_of, var_of};
 pub use name::{Name, NoMemory};
 pub use problem::{
     BoxLine, Centring, Fold, Ghost, GhostKind, Keep, Level, Num, Problem, Reduction, Require, Task,

@@ -13,6 +13,12 @@ impl From<AllocError> for NoMemory {
     }
 }
 
+impl From<kernel_ast::NoMemory> for NoMemory {
+    fn from(_: kernel_ast::NoMemory) -> Self {
+        NoMemory
+    }
+}
+
 /// A name of the problem text, seen as its bytes.
 #[derive(Debug, Drop)]
 pub struct Name {

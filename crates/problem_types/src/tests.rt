@@ -1,4 +1,7 @@
-use crate::{Expr, Name, NoMemory, Op, Problem, Term, Thin};
+use crate::{
+    Centring, Expr, Fold, Name, NoMemory, Op, Problem, Reduction, Term, Thin, Var, copy, in_form,
+    reduction_of, var_of,
+};
 use sqlite_items::Items;
 use std::alloc::Global;
 use std::test::Fail;
@@ -49,5 +52,106 @@ fn a_kernel_adds_its_terms_from_the_left(rt: HostRuntime) -> Result<(), Fail> {
 #[test]
 fn a_name_is_its_bytes(rt: HostRuntime) -> Result<(), Fail> {
     assert_eq!(rt; Name::new(rt.alloc(), b"u")?.bytes(), b"u".as_slice());
+    Ok(())
+}
+
+fn variable(line: u32, name: u32) -> Var {
+    Var {
+        line,
+        name,
+        centring: Centring::Node,
+        outside: 0,
+    }
+}
+
+#[test]
+fn a_declaration_is_found_by_its_name(rt: HostRuntime) -> Result<(), Fail> {
+    let mut problem = two_terms(rt.alloc())?;
+    problem.vars.push(variable(10, 2))?;
+    problem.vars.push(variable(10, 2))?;
+    assert_eq!(rt; var_of(&problem, 0), Some(0));
+    assert_eq!(rt; var_of(&problem, 1), None);
+    assert_eq!(rt; var_of(&problem, 2), Some(1));
+    for (line, name) in [(12, 1), (13, 2), (14, 2)] {
+        problem.reductions.push(Reduction {
+            line,
+            name,
+            fold: Fold::Max,
+        })?;
+    }
+    assert_eq!(rt; reduction_of(&problem, 0), None);
+    assert_eq!(rt; reduction_of(&problem, 1), Some(0));
+    assert_eq!(rt; reduction_of(&problem, 2), Some(1));
+    Ok(())
+}
+
+#[test]
+fn a_copy_is_the_same_problem(rt: HostRuntime) -> Result<(), Fail> {
+    let alloc = rt.alloc();
+    let mut problem = two_terms(alloc)?;
+    problem.reductions.push(Reduction {
+        line: 10,
+        name: 1,
+        fold: Fold::Min,
+    })?;
+    let same = copy(alloc, &problem)?;
+    let text = format!(in alloc; "{problem:?}")?;
+    let copied = format!(in alloc; "{same:?}")?;
+    assert_eq!(rt; copied.as_str(), text.as_str());
+    Ok(())
+}
+
+fn with_levels(alloc: Global, levels: &[u64]) -> Result<Problem, NoMemory> {
+    let mut problem = two_terms(alloc)?;
+    if let Some(mut task) = problem.init.pop() {
+        task.levels = Items::from_slice(alloc, levels)?;
+        problem.init.push(task)?;
+    }
+    Ok(problem)
+}
+
+// Variables on lines 9 and 10, a reduction, and no task before the steps.
+fn with_reduction(alloc: Global, line: u32, name: u32) -> Result<Problem, NoMemory> {
+    let mut problem = two_terms(alloc)?;
+    problem.init = Items::new(alloc);
+    problem.init_line = 12;
+    problem.vars.push(variable(10, 2))?;
+    problem.reductions.push(Reduction {
+        line,
+        name,
+        fold: Fold::Sum,
+    })?;
+    Ok(problem)
+}
+
+#[test]
+fn number_lists_ascend_strictly(rt: HostRuntime) -> Result<(), Fail> {
+    let alloc = rt.alloc();
+    assert!(rt; in_form(&with_levels(alloc, &[0])?));
+    assert!(rt; in_form(&with_levels(alloc, &[0, 2, 7])?));
+    assert!(rt; !in_form(&with_levels(alloc, &[])?));
+    assert!(rt; !in_form(&with_levels(alloc, &[0, 2, 2])?));
+    assert!(rt; !in_form(&with_levels(alloc, &[2, 0])?));
+    Ok(())
+}
+
+#[test]
+fn variables_stand_before_reductions(rt: HostRuntime) -> Result<(), Fail> {
+    let alloc = rt.alloc();
+    assert!(rt; in_form(&with_reduction(alloc, 11, 2)?));
+    assert!(rt; !in_form(&with_reduction(alloc, 11, 3)?));
+    assert!(rt; !in_form(&with_reduction(alloc, 9, 2)?));
+    assert!(rt; !in_form(&with_reduction(alloc, 10, 2)?));
+    assert!(rt; !in_form(&with_reduction(alloc, 12, 2)?));
+    Ok(())
+}
+
+#[test]
+fn lines_are_below_2_to_the_31(rt: HostRuntime) -> Result<(), Fail> {
+    let mut problem = two_terms(rt.alloc())?;
+    problem.end_line = 2_147_483_647;
+    assert!(rt; in_form(&problem));
+    problem.end_line = 2_147_483_648;
+    assert!(rt; !in_form(&problem));
     Ok(())
 }

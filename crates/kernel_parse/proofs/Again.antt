@@ -1,0 +1,77 @@
+-- Reads that are spelled are read, whatever stands behind them that does not go on with them.
+use Rattle.std.proofs.Common.{◌≡◌, ℕ, ◌<◌, ◌^◌, Bool, true, false, List, [], ◌∷◌, ◌++◌, Some, None, refl, ap, ◌∙◌, append_assoc, codes, ℤ, arith}
+use Rattle.std.specs.Prelude.{◌||◌, nat_lt, nat_le}
+use Rattle.std.specs.Str.{bytes_eq}
+use Rattle.std.proofs.lemmas.Bool.Decides.{nat_tests}
+use Rattle.uts_lex.specs.Lexemes.{Lexeme}
+use Rattle.kernel_ast.specs.declared.expression.Expr.{Expr}
+use Rattle.kernel_parse.specs.Signs.{number, sign, is_word, is_reserved}
+use Rattle.kernel_parse.specs.Grammar.{Words, SpellsSigned, plain, below_zero, SpellsOffset, offset, SpellsRead, own, coarse, fine, reduction}
+use Rattle.kernel_parse.specs.Reading.{behind_sign, number_of_token, signed_at, offset_at, parsed, dot_name_at, variable_at, read_at}
+use Rattle.kernel_parse.proofs.Numbers.{is_number-decimal, digits_value-decimal}
+use Rattle.kernel_parse.proofs.Tables.{fine_case}
+
+pub number_again : (n : ℕ) → n < 2 ^ 64 → number_of_token (number n) ≡ Some n
+number_again n small = rw (is_number-decimal n small, digits_value-decimal n small) refl
+
+signed_again : {xs : List Lexeme} {z : ℤ} → SpellsSigned xs z → (rest : List Lexeme) → signed_at (xs ++ rest) ≡ Some (z, rest)
+unfolding signed_at
+signed_again (plain n small) rest =
+    let test : nat_lt n (2 ^ 63) ≡ true = grind (arith, nat_tests) in
+    rw (is_number-decimal n (omega arith), digits_value-decimal n (omega arith), test) refl
+signed_again (below_zero n small) rest =
+    let test : nat_le n (2 ^ 63) ≡ true = grind (arith, nat_tests) in
+    rw (is_number-decimal n (omega arith), digits_value-decimal n (omega arith), test) refl
+
+offset_again : {ts : List Lexeme} {by : List ℤ} → SpellsOffset ts by → (rest : List Lexeme) → offset_at (ts ++ rest) ≡ Some (by, rest)
+unfolding offset_at
+offset_again (offset xs ys zs x y z sx sy sz) rest =
+    let last = sign (codes "]") ∷ rest in
+    let third = sign (codes ",") ∷ zs ++ last in
+    let second = sign (codes ",") ∷ ys ++ third in
+    let tokens : (sign (codes "[") ∷ xs ++ sign (codes ",") ∷ ys ++ sign (codes ",") ∷ zs ++ sign (codes "]") ∷ []) ++ rest ≡ sign (codes "[") ∷ xs ++ second = simp append_assoc in
+    let read : offset_at (sign (codes "[") ∷ xs ++ second) ≡ Some (x ∷ y ∷ z ∷ [], rest) =
+    rw (signed_again sx second, signed_again sy third, signed_again sz last) refl in
+    ap offset_at tokens ∙ read
+
+offset_begins : {ts : List Lexeme} {by : List ℤ} → SpellsOffset ts by → (rest : List Lexeme) → (w : List Lexeme) × (behind_sign (codes "[") (ts ++ rest) ≡ Some w)
+offset_begins (offset xs ys zs x y z sx sy sz) rest = (_, refl)
+
+-- a name is none of the words that are not
+record IsFree (name : List ℕ) : Type 0 where
+  not_coarse : bytes_eq name (codes "coarse") ≡ false
+  not_fine : bytes_eq name (codes "fine") ≡ false
+  not_sum : bytes_eq name (codes "fine_sum") ≡ false
+  not_min : bytes_eq name (codes "fine_min") ≡ false
+  not_max : bytes_eq name (codes "fine_max") ≡ false
+  not_count : bytes_eq name (codes "fine_count") ≡ false
+
+neither : (a b : Bool) → (a || b) ≡ false → (a ≡ false) × (b ≡ false)
+neither true b e = absurd cc
+neither false b e = (refl, e)
+
+is_free : (name : List ℕ) → is_reserved name ≡ false → IsFree name
+is_free name e =
+    let a = neither _ _ e in
+    let b = neither _ _ a.1 in
+    let c = neither _ _ b.1 in
+    let d = neither _ _ c.1 in
+    let f = neither _ _ d.1 in
+    let g = neither _ _ f.1 in
+    record { not_coarse = a.0; not_fine = b.0; not_sum = c.0; not_min = d.0; not_max = f.0; not_count = g.0 }
+
+pub read_again : {ts : List Lexeme} {names : Words} {e : Expr} {after : Words} → SpellsRead ts names e after
+    → (rest : List Lexeme) → behind_sign (codes "[") rest ≡ None → read_at names (ts ++ rest) ≡ Some (parsed e after rest)
+unfolding read_at variable_at dot_name_at
+read_again (own names at store name ts by is_store free spelled) rest follows =
+    let n = is_free name free in
+    let begins = offset_begins spelled rest in
+    rw (is_store, n.not_coarse, n.not_sum, n.not_min, n.not_max, n.not_count, n.not_fine, begins.1, offset_again spelled rest) refl
+read_again (coarse names at store name ts by is_store free spelled) rest follows =
+    rw (is_store, free, offset_again spelled rest) refl
+read_again (fine names at kind store how name is_store is_fine free) rest follows =
+    let not_coarse : is_word (codes "coarse") kind ≡ false = fine_case kind how is_fine (λ t. is_word (codes "coarse") t ≡ false) refl refl refl refl in
+    rw (is_store, not_coarse, is_fine, free) refl
+read_again (reduction names at store name is_store free) rest follows =
+    let n = is_free name free in
+    rw (is_store, n.not_coarse, n.not_sum, n.not_min, n.not_max, n.not_count, n.not_fine, follows) refl

@@ -1,0 +1,102 @@
+-- What is spelled is in form, over as many names as there are then.
+use Rattle.std.proofs.Common.{◌≡◌, ℕ, suc, ◌+◌, ◌<◌, ◌≤◌, Bool, true, false, cond, List, [], ◌∷◌, ◌++◌, length, Some, refl, ◌∙◌, pos, arith}
+use Rattle.std.specs.Prelude.{◌&&◌, ◌||◌, not, nat_lt, int_le}
+use Rattle.std.specs.List.{list_any, prefix_len}
+use Rattle.std.specs.Str.{bytes_eq}
+use Rattle.std.proofs.lemmas.Bool.Decides.{nat_tests}
+use Rattle.std.proofs.lemmas.List.{length-append}
+use Rattle.std.proofs.lemmas.List.Sums.{prefix_len-le-length}
+use Rattle.uts_lex.specs.Lexemes.{Lexeme}
+use Rattle.uts_lex.specs.Names.{number_of, with_name}
+use Rattle.kernel_ast.specs.Form.{are_leaves_in_form, is_fine, IsWithin, are_leaves_in_form-Literal, are_leaves_in_form-X, are_leaves_in_form-Y, are_leaves_in_form-Z, are_leaves_in_form-Level, are_leaves_in_form-Material, are_leaves_in_form-Step, are_leaves_in_form-Read, are_leaves_in_form-Number, are_leaves_in_form-Neg, are_leaves_in_form-Binary, are_leaves_in_form-Select}
+use Rattle.kernel_ast.specs.declared.expression.Op.{Op}
+use Rattle.kernel_ast.specs.declared.expression.Expr.{Expr}
+use Rattle.kernel_ast.specs.declared.expression.Expr.TheVariants as expr
+use Rattle.kernel_parse.specs.Signs.{place_of}
+use Rattle.kernel_parse.specs.Grammar.{Words, SpellsRead, own, coarse, fine, reduction, Form, Spells, one_sum, compared, one_product, added, one_unary, multiplied, one_primary, negated, literal, place, read, grouped, called, selected}
+use Rattle.kernel_ast.specs.Size.{depth_of, node_count}
+use Rattle.kernel_parse.specs.Reading.{parsed, all_of}
+use Rattle.kernel_parse.proofs.Sound.{all_spelled}
+use Rattle.kernel_parse.proofs.Tables.{place_value}
+
+found_below : {X : Type 0} (p : X → Bool) (xs : List X) → list_any p xs ≡ true → prefix_len (λ x. not (p x)) xs < length xs
+found_below p [] e = absurd cc
+found_below p (x ∷ xs) e = by (p x) e (found_below p xs)
+  where
+    by : (b : Bool) → (b || list_any p xs) ≡ true → (list_any p xs ≡ true → prefix_len (λ x. not (p x)) xs < length xs)
+        → cond (not b) (1 + prefix_len (λ x. not (p x)) xs) 0 < suc (length xs)
+    by true e more = omega arith
+    by false e more = let h = more e in omega arith
+
+-- a name's number is below how many names there are with it
+number_below : (names : Words) (name : List ℕ) → (number_of names name < length (with_name names name)) × (length names ≤ length (with_name names name))
+number_below names name = by (list_any (bytes_eq name) names) refl
+  where
+    by : (b : Bool) → list_any (bytes_eq name) names ≡ b
+        → (number_of names name < length (cond b names (names ++ name ∷ []))) × (length names ≤ length (cond b names (names ++ name ∷ [])))
+    by true e = (found_below (bytes_eq name) names e, omega arith)
+    by false e =
+        let within = prefix_len-le-length (λ (word : List ℕ). not (bytes_eq name word)) names in
+        (omega (arith, within, length-append names (name ∷ [])), omega (arith, length-append names (name ∷ [])))
+
+-- the leaves are in form over each number of names from so many on
+abbrev InForm : Words → Expr → Words → Type 0
+InForm names e after = (length names ≤ length after) × ((n : ℕ) → length after ≤ n → are_leaves_in_form n e ≡ true)
+
+both_true : (a b : Bool) → a ≡ true → b ≡ true → (a && b) ≡ true
+both_true a b p q = rw (p, q) refl
+
+-- the number of a name stands below the words behind it
+name_in : (names : Words) (name : List ℕ) (n : ℕ) → length (with_name names name) ≤ n → nat_lt (number_of names name) n ≡ true
+name_in names name n le = let below = (number_below names name).0 in grind (arith, nat_tests, below)
+
+read_in_form : {ts : List Lexeme} {names : Words} {e : Expr} {after : Words} → SpellsRead ts names e after → InForm names e after
+read_in_form (own names at store name ts by is_store free spelled) =
+    ((number_below names name).1, λ n le. are_leaves_in_form-Read n _ ∙ both_true _ _ (name_in names name n le) refl)
+read_in_form (coarse names at store name ts by is_store free spelled) =
+    ((number_below names name).1, λ n le. are_leaves_in_form-Read n _ ∙ both_true _ _ (name_in names name n le) refl)
+read_in_form (fine names at kind store how name is_store is_fine_how free) =
+    ((number_below names name).1, λ n le. are_leaves_in_form-Read n _ ∙ both_true _ _ (name_in names name n le) (zero_offset (is_fine how)))
+  where
+    zero_offset : (b : Bool) → (not b || true) ≡ true
+    zero_offset true = refl
+    zero_offset false = refl
+read_in_form (reduction names at store name is_store free) =
+    ((number_below names name).1, λ n le. are_leaves_in_form-Number n store _ ∙ name_in names name n le)
+
+place_in_form : (n : ℕ) (at : Lexeme) (e : Expr) → place_of at ≡ Some e → are_leaves_in_form n e ≡ true
+place_in_form n at e is = place_value at e is (λ e. are_leaves_in_form n e ≡ true)
+    (are_leaves_in_form-X n) (are_leaves_in_form-Y n) (are_leaves_in_form-Z n) (are_leaves_in_form-Level n) (are_leaves_in_form-Material n) (are_leaves_in_form-Step n)
+
+binary_in_form : (names between after : Words) (op : Op) (a b : Expr) → InForm names a between → InForm between b after → InForm names (expr.Binary op a b) after
+binary_in_form names between after op a b f g =
+    (omega (arith, f.0, g.0), λ n le. are_leaves_in_form-Binary n op a b ∙ both_true _ _ (f.1 n (omega (arith, g.0))) (g.1 n le))
+
+from_zero : (n : ℕ) → int_le (pos 0) (pos n) ≡ true
+from_zero n = let le : 0 ≤ n = omega arith in grind (arith, nat_tests)
+
+spelled_in_form : {form : Form} {room : ℕ} {ts : List Lexeme} {names : Words} {e : Expr} {after : Words} → Spells form room ts names e after → InForm names e after
+spelled_in_form (one_sum room ts names after a s) = spelled_in_form s
+spelled_in_form (compared room ts us names between after a b at op s is t) = binary_in_form names between after op a b (spelled_in_form s) (spelled_in_form t)
+spelled_in_form (one_product room ts names after a s) = spelled_in_form s
+spelled_in_form (added room ts us names between after a b at op s is t) = binary_in_form names between after op a b (spelled_in_form s) (spelled_in_form t)
+spelled_in_form (one_unary room ts names after a s) = spelled_in_form s
+spelled_in_form (multiplied room ts us names between after a b at op s is t) = binary_in_form names between after op a b (spelled_in_form s) (spelled_in_form t)
+spelled_in_form (one_primary room ts names after a s) = spelled_in_form s
+spelled_in_form (negated room ts names after a s) = let f = spelled_in_form s in (f.0, λ n le. are_leaves_in_form-Neg n a ∙ f.1 n le)
+spelled_in_form (literal room names n small) = (omega arith, λ m le. are_leaves_in_form-Literal m (pos n) ∙ from_zero n)
+spelled_in_form (place room names at e is) = (omega arith, λ n le. place_in_form n at e is)
+spelled_in_form (read room ts names after e r) = read_in_form r
+spelled_in_form (grouped room ts names after e s) = spelled_in_form s
+spelled_in_form (called room ts us names between after a b at op is s t) = binary_in_form names between after op a b (spelled_in_form s) (spelled_in_form t)
+spelled_in_form (selected room ts us vs names one two after c a b s t u) =
+    let f = spelled_in_form s in
+    let g = spelled_in_form t in
+    let h = spelled_in_form u in
+    (omega (arith, f.0, g.0, h.0), λ n le. are_leaves_in_form-Select n c a b ∙ both_true _ _ (both_true _ _ (f.1 n (omega (arith, g.0, h.0))) (g.1 n (omega (arith, h.0)))) (h.1 n le))
+
+-- what all of the tokens are read as is in form, where it is within the limits
+pub all_in_form : (names after : Words) (ts : List Lexeme) (e : Expr) → all_of names ts ≡ Some (parsed e after []) → depth_of e ≤ 64 → node_count e ≤ 256
+    → IsWithin (length after) 64 256 e
+all_in_form names after ts e is shallow few =
+    record { shallow = shallow; few_nodes = few; leaves = (spelled_in_form (all_spelled names after ts e is)).1 (length after) (omega arith) }

@@ -1,0 +1,13 @@
+pub mod Numbers
+pub mod Sources
+pub mod Chains
+pub mod Phrases
+pub mod Firsts
+pub mod Found
+pub mod Sound
+pub mod Tables
+pub mod Again
+pub mod Ends
+pub mod Complete
+pub mod Lines
+pub mod Forms

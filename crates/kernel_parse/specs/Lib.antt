@@ -1,0 +1,4 @@
+pub mod Signs
+pub mod Grammar
+pub mod Reading
+pub mod Source

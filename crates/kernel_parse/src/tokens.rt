@@ -1,0 +1,116 @@
+//! What stands first among some tokens of a text, and the tokens behind it.
+ghost use Rattle.std.specs.Prelude.{◌≡◌, All, IfSome};
+ghost use Rattle.std.specs.Option.{option_map};
+ghost use Rattle.kernel_parse.specs.Signs.{is_word, op_of, store_of, fine_of};
+ghost use Rattle.kernel_parse.specs.Reading.{behind, behind_sign, first_as, number_of_token, name_of_token, atom_of, dot_name_at, IsLeaf};
+ghost use Rattle.kernel_parse.specs.Source.{LiesIn, IsBehind, lexemes};
+
+use crate::lexeme::{
+    Operators, atom_of, fine_of, is_sign, is_word, name_of, number_of, operator_of, store_of,
+};
+use kernel_ast::{Expr, How, Op, Store};
+use uts_lex::Token;
+
+/// The tokens behind the sign.
+pub(crate) fn behind_sign<'a>(text: &[u8], tokens: &'a [Token], bytes: &[u8]) -> Option<&'a [Token]>
+    requires { All (LiesIn text.now) tokens.now }
+    ensures read { option_map (λ rest. lexemes text.now rest.now) result ≡ behind_sign bytes.now (lexemes text.now tokens.now) }
+    ensures rest { IfSome result (λ rest. IsBehind text.now tokens.now rest.now) }
+{
+    let (first, rest) = tokens.split_first()?;
+    if is_sign(text, first, bytes) {
+        Some(rest)
+    } else {
+        None
+    }
+}
+
+/// The tokens behind the word.
+pub(crate) fn behind_word<'a>(text: &[u8], tokens: &'a [Token], bytes: &[u8]) -> Option<&'a [Token]>
+    requires { All (LiesIn text.now) tokens.now }
+    ensures read { option_map (λ rest. lexemes text.now rest.now) result ≡ behind (is_word bytes.now) (lexemes text.now tokens.now) }
+    ensures rest { IfSome result (λ rest. IsBehind text.now tokens.now rest.now) }
+{
+    let (first, rest) = tokens.split_first()?;
+    if is_word(text, first, bytes) {
+        Some(rest)
+    } else {
+        None
+    }
+}
+
+/// An operator of this kind.
+pub(crate) fn split_operator<'a>(
+    text: &[u8],
+    tokens: &'a [Token],
+    kind: Operators,
+) -> Option<(Op, &'a [Token])>
+    requires { All (LiesIn text.now) tokens.now }
+    ensures read { option_map (λ r. (r.0, lexemes text.now r.1.now)) result ≡ first_as (op_of kind) (lexemes text.now tokens.now) }
+    ensures rest { IfSome result (λ r. IsBehind text.now tokens.now r.1.now) }
+{
+    let (first, rest) = tokens.split_first()?;
+    Some((operator_of(text, first, kind)?, rest))
+}
+
+pub(crate) fn split_store<'a>(text: &[u8], tokens: &'a [Token]) -> Option<(Store, &'a [Token])>
+    requires { All (LiesIn text.now) tokens.now }
+    ensures read { option_map (λ r. (r.0, lexemes text.now r.1.now)) result ≡ first_as store_of (lexemes text.now tokens.now) }
+    ensures rest { IfSome result (λ r. IsBehind text.now tokens.now r.1.now) }
+{
+    let (first, rest) = tokens.split_first()?;
+    Some((store_of(text, first)?, rest))
+}
+
+pub(crate) fn split_fine<'a>(text: &[u8], tokens: &'a [Token]) -> Option<(How, &'a [Token])>
+    requires { All (LiesIn text.now) tokens.now }
+    ensures read { option_map (λ r. (r.0, lexemes text.now r.1.now)) result ≡ first_as fine_of (lexemes text.now tokens.now) }
+    ensures rest { IfSome result (λ r. IsBehind text.now tokens.now r.1.now) }
+{
+    let (first, rest) = tokens.split_first()?;
+    Some((fine_of(text, first)?, rest))
+}
+
+pub(crate) fn split_number<'a>(text: &[u8], tokens: &'a [Token]) -> Option<(u64, &'a [Token])>
+    requires { All (LiesIn text.now) tokens.now }
+    ensures read { option_map (λ r. (r.0, lexemes text.now r.1.now)) result ≡ first_as number_of_token (lexemes text.now tokens.now) }
+    ensures rest { IfSome result (λ r. IsBehind text.now tokens.now r.1.now) }
+{
+    let (first, rest) = tokens.split_first()?;
+    Some((number_of(text, first)?, rest))
+}
+
+pub(crate) fn split_atom<'a>(text: &[u8], tokens: &'a [Token]) -> Option<(Expr, &'a [Token])>
+    requires { All (LiesIn text.now) tokens.now }
+    ensures read { option_map (λ r. (r.0, lexemes text.now r.1.now)) result ≡ first_as atom_of (lexemes text.now tokens.now) }
+    ensures rest { IfSome result (λ r. IsBehind text.now tokens.now r.1.now) }
+    ensures leaf { IfSome result (λ r. IsLeaf r.0) }
+{
+    let (first, rest) = tokens.split_first()?;
+    Some((atom_of(text, first)?, rest))
+}
+
+pub(crate) fn split_name<'t, 'a>(
+    text: &'t [u8],
+    tokens: &'a [Token],
+) -> Option<(&'t [u8], &'a [Token])>
+    requires { All (LiesIn text.now) tokens.now }
+    ensures read { option_map (λ r. (r.0.now, lexemes text.now r.1.now)) result ≡ first_as name_of_token (lexemes text.now tokens.now) }
+    ensures rest { IfSome result (λ r. IsBehind text.now tokens.now r.1.now) }
+{
+    let (first, rest) = tokens.split_first()?;
+    Some((name_of(text, first)?, rest))
+}
+
+/// A name behind a dot.
+#[tactic(auto, using(crate::proofs::Sources::IsBehind_trans), unfolding(crate::specs::Reading::dot_name_at))]
+pub(crate) fn split_dot_name<'t, 'a>(
+    text: &'t [u8],
+    tokens: &'a [Token],
+) -> Option<(&'t [u8], &'a [Token])>
+    requires { All (LiesIn text.now) tokens.now }
+    ensures read { option_map (λ r. (r.0.now, lexemes text.now r.1.now)) result ≡ dot_name_at (lexemes text.now tokens.now) }
+    ensures rest { IfSome result (λ r. IsBehind text.now tokens.now r.1.now) }
+{
+    split_name(text, behind_sign(text, tokens, b".")?)
+}
