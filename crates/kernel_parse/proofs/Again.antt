@@ -1,27 +1,14 @@
 -- Reads that are spelled are read, whatever stands behind them that does not go on with them.
-use Rattle.std.proofs.Common.{◌≡◌, ℕ, ◌<◌, ◌^◌, Bool, true, false, List, [], ◌∷◌, ◌++◌, Some, None, refl, ap, ◌∙◌, append_assoc, codes, ℤ, arith}
-use Rattle.std.specs.Prelude.{◌||◌, nat_lt, nat_le}
+use Rattle.std.proofs.Common.{◌≡◌, ℕ, Bool, true, false, List, [], ◌∷◌, ◌++◌, Some, None, refl, ap, ◌∙◌, append_assoc, codes, ℤ}
+use Rattle.std.specs.Prelude.{◌||◌}
 use Rattle.std.specs.Str.{bytes_eq}
-use Rattle.std.proofs.lemmas.Bool.Decides.{nat_tests}
 use Rattle.uts_lex.specs.Lexemes.{Lexeme}
 use Rattle.kernel_ast.specs.declared.expression.Expr.{Expr}
-use Rattle.kernel_parse.specs.Signs.{number, sign, is_word, is_reserved}
-use Rattle.kernel_parse.specs.Grammar.{Words, SpellsSigned, plain, below_zero, SpellsOffset, offset, SpellsRead, own, coarse, fine, reduction}
-use Rattle.kernel_parse.specs.Reading.{behind_sign, number_of_token, signed_at, offset_at, parsed, dot_name_at, variable_at, read_at}
-use Rattle.kernel_parse.proofs.Numbers.{is_number-decimal, digits_value-decimal}
+use Rattle.kernel_parse.specs.Signs.{sign, is_word, is_reserved}
+use Rattle.kernel_parse.specs.Grammar.{Words, SpellsOffset, offset, SpellsRead, own, coarse, fine, reduction}
+use Rattle.kernel_parse.specs.Reading.{behind_sign, offset_at, parsed, dot_name_at, variable_at, read_at}
+use Rattle.kernel_parse.specs.Signed.{signed_again}
 use Rattle.kernel_parse.proofs.Tables.{fine_case}
-
-pub number_again : (n : ℕ) → n < 2 ^ 64 → number_of_token (number n) ≡ Some n
-number_again n small = rw (is_number-decimal n small, digits_value-decimal n small) refl
-
-signed_again : {xs : List Lexeme} {z : ℤ} → SpellsSigned xs z → (rest : List Lexeme) → signed_at (xs ++ rest) ≡ Some (z, rest)
-unfolding signed_at
-signed_again (plain n small) rest =
-    let test : nat_lt n (2 ^ 63) ≡ true = grind (arith, nat_tests) in
-    rw (is_number-decimal n (omega arith), digits_value-decimal n (omega arith), test) refl
-signed_again (below_zero n small) rest =
-    let test : nat_le n (2 ^ 63) ≡ true = grind (arith, nat_tests) in
-    rw (is_number-decimal n (omega arith), digits_value-decimal n (omega arith), test) refl
 
 offset_again : {ts : List Lexeme} {by : List ℤ} → SpellsOffset ts by → (rest : List Lexeme) → offset_at (ts ++ rest) ≡ Some (by, rest)
 unfolding offset_at

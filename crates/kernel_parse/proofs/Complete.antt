@@ -13,7 +13,7 @@ use Rattle.kernel_parse.specs.declared.lexeme.Operators.TheVariants.{Comparison,
 use Rattle.kernel_parse.specs.Signs.{word, number, sign, is_sign, op_of, comparison_of, call_of, place_of, store_of}
 use Rattle.kernel_parse.specs.Grammar.{Words, SpellsRead, own, coarse, fine, reduction, Form, whole, sum, product, unary, primary, Spells, one_sum, compared, one_product, added, one_unary, multiplied, one_primary, negated, literal, place, read, grouped, called, selected, SpellsExpression}
 use Rattle.kernel_parse.specs.Reading.{behind_sign, first_as, Parsed, parsed, read_at, limited, Reader, unary_at, call_at, select_at, leaf_at, primary_at, product_at, sum_at, whole_at, expression_at, all_of}
-use Rattle.kernel_parse.proofs.Numbers.{is_number-decimal, digits_value-decimal}
+use Rattle.kernel_parse.specs.Numbers.{is_number-decimal, digits_value-decimal}
 use Rattle.kernel_parse.proofs.Tables.{call_case, place_case, store_case}
 use Rattle.kernel_ast.proofs.Limits.{depth_of_positive}
 use Rattle.kernel_parse.proofs.Again.{read_again}

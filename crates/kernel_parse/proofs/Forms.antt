@@ -8,14 +8,16 @@ use Rattle.std.proofs.lemmas.List.{length-append}
 use Rattle.std.proofs.lemmas.List.Sums.{prefix_len-le-length}
 use Rattle.uts_lex.specs.Lexemes.{Lexeme}
 use Rattle.uts_lex.specs.Names.{number_of, with_name}
-use Rattle.kernel_ast.specs.Form.{are_leaves_in_form, is_fine, IsWithin, are_leaves_in_form-Literal, are_leaves_in_form-X, are_leaves_in_form-Y, are_leaves_in_form-Z, are_leaves_in_form-Level, are_leaves_in_form-Material, are_leaves_in_form-Step, are_leaves_in_form-Read, are_leaves_in_form-Number, are_leaves_in_form-Neg, are_leaves_in_form-Binary, are_leaves_in_form-Select}
+use Rattle.kernel_ast.specs.Form.{are_leaves_in_form, is_fine, IsWithin, IsExpressionInForm, are_leaves_in_form-Literal, are_leaves_in_form-X, are_leaves_in_form-Y, are_leaves_in_form-Z, are_leaves_in_form-Level, are_leaves_in_form-Material, are_leaves_in_form-Step, are_leaves_in_form-Read, are_leaves_in_form-Number, are_leaves_in_form-Neg, are_leaves_in_form-Binary, are_leaves_in_form-Select}
 use Rattle.kernel_ast.specs.declared.expression.Op.{Op}
 use Rattle.kernel_ast.specs.declared.expression.Expr.{Expr}
 use Rattle.kernel_ast.specs.declared.expression.Expr.TheVariants as expr
 use Rattle.kernel_parse.specs.Signs.{place_of}
-use Rattle.kernel_parse.specs.Grammar.{Words, SpellsRead, own, coarse, fine, reduction, Form, Spells, one_sum, compared, one_product, added, one_unary, multiplied, one_primary, negated, literal, place, read, grouped, called, selected}
+use Rattle.kernel_parse.specs.Grammar.{Words, SpellsRead, own, coarse, fine, reduction, Form, Spells, one_sum, compared, one_product, added, one_unary, multiplied, one_primary, negated, literal, place, read, grouped, called, selected, SpellsExpression}
 use Rattle.kernel_ast.specs.Size.{depth_of, node_count}
 use Rattle.kernel_parse.specs.Reading.{parsed, all_of}
+use Rattle.kernel_parse.specs.Source.{Extends}
+use Rattle.kernel_parse.specs.SourceLaws.{Extends_refl, Extends_trans, Extends_with_name, length_with_name}
 use Rattle.kernel_parse.proofs.Sound.{all_spelled}
 use Rattle.kernel_parse.proofs.Tables.{place_value}
 
@@ -100,3 +102,51 @@ pub all_in_form : (names after : Words) (ts : List Lexeme) (e : Expr) → all_of
     → IsWithin (length after) 64 256 e
 all_in_form names after ts e is shallow few =
     record { shallow = shallow; few_nodes = few; leaves = (spelled_in_form (all_spelled names after ts e is)).1 (length after) (omega arith) }
+
+pub expression_in_form : (ts : List Lexeme) (names after : Words) (e : Expr) (known : ℕ) → SpellsExpression ts names e after → length after ≤ known → IsExpressionInForm known e
+expression_in_form ts names after e known s within =
+    record { shallow = s.shallow; few_nodes = s.few_nodes; leaves = (spelled_in_form s.spelled).1 known within }
+
+-- ---- the words behind
+
+-- the words before stay, and no more than so many are new
+abbrev Keeps : Words → ℕ → Words → Type 0
+Keeps names tokens after = Extends names after × (length after ≤ length names + tokens)
+
+keeps_none : (names : Words) (tokens : ℕ) → Keeps names tokens names
+keeps_none names tokens = (Extends_refl names, omega arith)
+
+keeps_name : (names : Words) (name : List ℕ) (tokens : ℕ) → 1 ≤ tokens → Keeps names tokens (with_name names name)
+keeps_name names name tokens some = (Extends_with_name names name, omega (arith, length_with_name names name))
+
+keeps_both : (names between after : Words) (a b tokens : ℕ) → Keeps names a between → Keeps between b after → a + b ≤ tokens → Keeps names tokens after
+keeps_both names between after a b tokens f g le = (Extends_trans names between after f.0 g.0, omega (arith, f.1, g.1))
+
+keeps_more : (names after : Words) (a tokens : ℕ) → Keeps names a after → a ≤ tokens → Keeps names tokens after
+keeps_more names after a tokens f le = (f.0, omega (arith, f.1))
+
+read_keeps : {ts : List Lexeme} {names : Words} {e : Expr} {after : Words} → SpellsRead ts names e after → Keeps names (length ts) after
+read_keeps (own names at store name ts by is_store free spelled) = keeps_name names name _ (omega arith)
+read_keeps (coarse names at store name ts by is_store free spelled) = keeps_name names name _ (omega arith)
+read_keeps (fine names at kind store how name is_store is_fine_how free) = keeps_name names name _ (omega arith)
+read_keeps (reduction names at store name is_store free) = keeps_name names name _ (omega arith)
+
+keeps : {form : Form} {room : ℕ} {ts : List Lexeme} {names : Words} {e : Expr} {after : Words} → Spells form room ts names e after → Keeps names (length ts) after
+keeps (one_sum room ts names after a s) = keeps s
+keeps (compared room ts us names between after a b at op s is t) = keeps_both names between after (length ts) (length us) _ (keeps s) (keeps t) (simp length-append (omega arith))
+keeps (one_product room ts names after a s) = keeps s
+keeps (added room ts us names between after a b at op s is t) = keeps_both names between after (length ts) (length us) _ (keeps s) (keeps t) (simp length-append (omega arith))
+keeps (one_unary room ts names after a s) = keeps s
+keeps (multiplied room ts us names between after a b at op s is t) = keeps_both names between after (length ts) (length us) _ (keeps s) (keeps t) (simp length-append (omega arith))
+keeps (one_primary room ts names after a s) = keeps s
+keeps (negated room ts names after a s) = keeps_more names after (length ts) _ (keeps s) (omega arith)
+keeps (literal room names n small) = keeps_none names _
+keeps (place room names at e is) = keeps_none names _
+keeps (read room ts names after e r) = read_keeps r
+keeps (grouped room ts names after e s) = keeps_more names after (length ts) _ (keeps s) (simp length-append (omega arith))
+keeps (called room ts us names between after a b at op is s t) = keeps_both names between after (length ts) (length us) _ (keeps s) (keeps t) (simp length-append (omega arith))
+keeps (selected room ts us vs names one two after c a b s t u) =
+    keeps_both names one after (length ts) (length us + length vs) _ (keeps s) (keeps_both one two after (length us) (length vs) (length us + length vs) (keeps t) (keeps u) (omega arith)) (simp length-append (omega arith))
+
+pub words_kept : (ts : List Lexeme) (names after : Words) (e : Expr) → SpellsExpression ts names e after → Extends names after × (length after ≤ length names + length ts)
+words_kept ts names after e s = keeps s.spelled

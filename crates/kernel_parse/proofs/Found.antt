@@ -1,64 +1,20 @@
 -- What is read is spelled so.
-use Rattle.std.proofs.Common.{◌≡◌, ℕ, ◌<◌, ◌≤◌, ◌^◌, Bool, true, false, List, [], ◌∷◌, ◌++◌, Some, inl, inr, refl, ap, ◌∙◌, subst, codes, ℤ, pos, neg_ℤ, arith}
-use Rattle.std.specs.Prelude.{nat_lt, nat_le}
+use Rattle.std.proofs.Common.{◌≡◌, ℕ, false, List, [], ◌∷◌, ◌++◌, Some, inl, inr, refl, ap, ◌∙◌, subst, codes, ℤ, pos}
 use Rattle.std.specs.Option.{option_map, option_map_or}
-use Rattle.std.proofs.lemmas.Bool.Decides.{nat_tests}
 use Rattle.uts_lex.specs.Lexemes.{Lexeme}
 use Rattle.uts_lex.specs.Names.{number_of, with_name}
 use Rattle.kernel_ast.specs.declared.expression.Store.{Store}
 use Rattle.kernel_ast.specs.declared.expression.How.{How}
 use Rattle.kernel_ast.specs.declared.expression.How.TheVariants.{Same, Coarse}
 use Rattle.kernel_ast.specs.declared.expression.Expr.TheVariants as expr
-use Rattle.kernel_parse.specs.Signs.{word, number, sign, is_word, store_of, fine_of, is_reserved}
-use Rattle.kernel_parse.specs.Grammar.{Words, SpellsSigned, plain, below_zero, SpellsOffset, offset, read_of, SpellsRead, own, coarse, fine, reduction}
-use Rattle.kernel_parse.specs.Reading.{◌>>=◌, behind, behind_sign, number_of_token, name_of_token, first_as, signed_in, signed_from, signed_at, signed_behind, offset_at, Parsed, parsed, dot_name_at, read_by, fine_at, coarse_at, number_or_read, own_at, variable_at, dot_variable_at, read_at}
+use Rattle.kernel_parse.specs.Signs.{word, sign, is_word, store_of, fine_of, is_reserved}
+use Rattle.kernel_parse.specs.Grammar.{Words, SpellsSigned, SpellsOffset, offset, read_of, SpellsRead, own, coarse, fine, reduction}
+use Rattle.kernel_parse.specs.Reading.{◌>>=◌, behind, behind_sign, name_of_token, first_as, signed_at, signed_behind, offset_at, Parsed, parsed, dot_name_at, read_by, fine_at, coarse_at, number_or_read, own_at, variable_at, dot_variable_at, read_at}
 use Rattle.kernel_parse.proofs.Phrases.{joined_three}
-use Rattle.kernel_parse.proofs.Firsts.{bind_some, branch_some, test_some, map_some, behind_sign_some, behind_word_some, first_as_some, number_some, name_some}
+use Rattle.kernel_parse.specs.Signed.{signed_some}
+use Rattle.kernel_parse.specs.Firsts.{bind_some, branch_some, map_some, behind_sign_some, behind_word_some, first_as_some, name_some}
 
 -- ---- offsets
-
--- the tokens at the front spell the number
-pub record TakesSigned (ts : List Lexeme) (z : ℤ) (rest : List Lexeme) : Type 0 where
-  pub phrase : List Lexeme
-  pub parts : ts ≡ phrase ++ rest
-  pub spelled : SpellsSigned phrase z
-
-signed_in_true : (n : ℕ) (z : ℤ) → signed_in true n ≡ Some z → (n ≤ 2 ^ 63) × (neg_ℤ (pos n) ≡ z)
-signed_in_true n z e = let p = test_some (nat_le n (2 ^ 63)) (neg_ℤ (pos n)) z e in (grind (arith, nat_tests, p.0), p.1)
-
-signed_in_false : (n : ℕ) (z : ℤ) → signed_in false n ≡ Some z → (n < 2 ^ 63) × (pos n ≡ z)
-signed_in_false n z e = let p = test_some (nat_lt n (2 ^ 63)) (pos n) z e in (grind (arith, nat_tests, p.0), p.1)
-
-signed_from_some : (negative : Bool) (ts : List Lexeme) (z : ℤ) (rest : List Lexeme) → signed_from negative ts ≡ Some (z, rest)
-    → (n : ℕ) × (ts ≡ number n ∷ rest) × (signed_in negative n ≡ Some z)
-signed_from_some negative ts z rest e =
-    let p = bind_some (first_as number_of_token ts) (λ n. option_map (λ (z : ℤ). (z, n.1)) (signed_in negative n.0)) (z, rest) e in
-    let n = p.0 in
-    let q = map_some (λ (z : ℤ). (z, n.1)) (signed_in negative n.0) (z, rest) p.2 in
-    let t = first_as_some number_of_token ts n.0 n.1 p.1 in
-    let s = number_some t.0 n.0 t.2 in
-    let z-is : q.0 ≡ z = ap (λ (r : ℤ × List Lexeme). r.0) q.2 in
-    let rest-is : n.1 ≡ rest = ap (λ (r : ℤ × List Lexeme). r.1) q.2 in
-    let first : ts ≡ t.0 ∷ n.1 = t.1 in
-    let token : t.0 ≡ number n.0 = s.0 in
-    (n.0, first ∙ ap (λ (l : Lexeme). l ∷ n.1) token ∙ ap (λ (w : List Lexeme). number n.0 ∷ w) rest-is, q.1 ∙ ap (λ (w : ℤ). Some w) z-is)
-
-signed_some : (ts : List Lexeme) (z : ℤ) (rest : List Lexeme) → signed_at ts ≡ Some (z, rest) → TakesSigned ts z rest
-unfolding signed_at
-signed_some ts z rest e =
-    elim (branch_some (λ rest. signed_from true rest) (behind_sign (codes "-") ts) (signed_from false ts) (z, rest) e) [
-      | inl b ↦
-          let f = signed_from_some true b.0 z rest b.2 in
-          let n = f.0 in
-          let s = signed_in_true n z f.2 in
-          let minus = behind_sign_some (codes "-") ts b.0 b.1 in
-          record { phrase = sign (codes "-") ∷ number n ∷ []; parts = minus ∙ ap (λ (w : List Lexeme). sign (codes "-") ∷ w) f.1; spelled = subst (SpellsSigned (sign (codes "-") ∷ number n ∷ [])) s.1 (below_zero n s.0) }
-      | inr b ↦
-          let f = signed_from_some false ts z rest b.1 in
-          let n = f.0 in
-          let s = signed_in_false n z f.2 in
-          record { phrase = number n ∷ []; parts = f.1; spelled = subst (SpellsSigned (number n ∷ [])) s.1 (plain n s.0) }
-    ]
 
 signed_behind_some : (bytes : List ℕ) (ts : List Lexeme) (z : ℤ × List Lexeme) → signed_behind bytes ts ≡ Some z
     → (xs : List Lexeme) × (ts ≡ sign bytes ∷ xs ++ z.1) × SpellsSigned xs z.0

@@ -1,13 +1,9 @@
-pub mod Numbers
-pub mod Sources
 pub mod Chains
 pub mod Phrases
-pub mod Firsts
 pub mod Found
 pub mod Sound
 pub mod Tables
 pub mod Again
 pub mod Ends
 pub mod Complete
-pub mod Lines
 pub mod Forms

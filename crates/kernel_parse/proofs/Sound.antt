@@ -15,7 +15,7 @@ use Rattle.kernel_parse.specs.Grammar.{Words, Form, whole, sum, product, unary, 
 use Rattle.kernel_parse.specs.Reading.{◌>>=◌, behind, behind_sign, number_of_token, first_as, Parsed, parsed, read_at, limited, Reader, sized, joined, more_at, chain_at, negation_of, unary_at, behind_sign_at, closed, group_at, call_at, select_at, literal_of, atom_of, leaf_at, primary_at, product_at, sum_at, comparison_at, whole_at, expression_at, if_empty, all_of}
 use Rattle.kernel_parse.proofs.Phrases.{joined_two, joined_three}
 use Rattle.kernel_parse.proofs.Found.{read_some}
-use Rattle.kernel_parse.proofs.Firsts.{bind_some, branch_some, test_some, map_some, behind_sign_some, behind_word_some, first_as_some, number_some}
+use Rattle.kernel_parse.specs.Firsts.{bind_some, branch_some, test_some, map_some, behind_sign_some, behind_word_some, first_as_some, number_some}
 
 -- the tokens at the front spell what was read
 pub record Takes (form : Form) (room : ℕ) (names : Words) (ts : List Lexeme) (p : Parsed) : Type 0 where

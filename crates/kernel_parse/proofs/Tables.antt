@@ -11,7 +11,7 @@ use Rattle.kernel_ast.specs.declared.expression.Op.TheVariants as op
 use Rattle.kernel_ast.specs.declared.expression.Expr.{Expr}
 use Rattle.kernel_ast.specs.declared.expression.Expr.TheVariants as expr
 use Rattle.kernel_parse.specs.Signs.{word, sign, is_word, is_sign, comparison_of, term_op_of, factor_op_of, call_of, place_of, store_of, fine_of}
-use Rattle.kernel_parse.proofs.Firsts.{is_sign_true, is_word_true}
+use Rattle.kernel_parse.specs.Firsts.{is_sign_true, is_word_true}
 
 pick : {A : Type 0} (b : Bool) (x : A) (o : Option A) (y : A) → (if b then Some x else o) ≡ Some y → (b ≡ true) ⊎ (o ≡ Some y)
 pick true x o y e = inl refl

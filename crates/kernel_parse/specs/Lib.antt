@@ -2,3 +2,8 @@ pub mod Signs
 pub mod Grammar
 pub mod Reading
 pub mod Source
+pub mod Numbers
+pub mod Firsts
+pub mod SourceLaws
+pub mod LineTokens
+pub mod Signed

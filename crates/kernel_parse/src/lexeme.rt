@@ -164,7 +164,7 @@ pub(crate) fn fine_of(text: &[u8], token: &Token) -> Option<How>
 }
 
 /// The number that the token spells.
-#[tactic(auto, using(crate::proofs::Numbers::number_read))]
+#[tactic(auto, using(crate::specs::Numbers::number_read))]
 pub(crate) fn number_of(text: &[u8], token: &Token) -> Option<u64>
     requires { LiesIn text.now token.now }
     ensures { result ≡ number_of_token (lexeme_at text.now token.now) }

@@ -17,7 +17,7 @@ const MAX_OPEN: u32 = 64;
 
 /// An expression at most so deep, within so many levels of parentheses, its own among them.
 #[cycle(parser)]
-#[tactic(auto, using(crate::proofs::Sources::kept_words), unfolding(crate::specs::Reading::expression_at))]
+#[tactic(auto, using(crate::specs::SourceLaws::kept_words), unfolding(crate::specs::Reading::expression_at))]
 fn expression<'a>(
     alloc: Global,
     text: &[u8],
@@ -41,7 +41,7 @@ fn expression<'a>(
 
 /// A sum, or a comparison of two.
 #[cycle(parser)]
-#[tactic(auto, using(crate::proofs::Sources::kept_words))]
+#[tactic(auto, using(crate::specs::SourceLaws::kept_words))]
 fn comparison<'a>(
     alloc: Global,
     text: &[u8],
@@ -67,7 +67,7 @@ fn comparison<'a>(
 
 /// Terms with `+` and `-` between them. Each of them makes the sum one deeper.
 #[cycle(parser)]
-#[tactic(auto, using(crate::proofs::Sources::kept_words))]
+#[tactic(auto, using(crate::specs::SourceLaws::kept_words))]
 fn sum<'a>(
     alloc: Global,
     text: &[u8],
@@ -97,7 +97,7 @@ fn sum<'a>(
 
 /// Factors with `*`, `/` and `%` between them. Each of them makes the product one deeper.
 #[cycle(parser)]
-#[tactic(auto, using(crate::proofs::Sources::kept_words))]
+#[tactic(auto, using(crate::specs::SourceLaws::kept_words))]
 fn product<'a>(
     alloc: Global,
     text: &[u8],
@@ -127,7 +127,7 @@ fn product<'a>(
 
 /// An operand with any number of `-` before it.
 #[cycle(parser)]
-#[tactic(auto, using(crate::proofs::Sources::kept_words), unfolding(crate::specs::Reading::unary_at))]
+#[tactic(auto, using(crate::specs::SourceLaws::kept_words), unfolding(crate::specs::Reading::unary_at))]
 fn unary<'a>(
     alloc: Global,
     text: &[u8],
@@ -155,7 +155,7 @@ fn unary<'a>(
 
 /// An expression in parentheses, a call, or one with no parts.
 #[cycle(parser)]
-#[tactic(auto, using(crate::proofs::Sources::kept_words), unfolding(crate::specs::Reading::primary_at))]
+#[tactic(auto, using(crate::specs::SourceLaws::kept_words), unfolding(crate::specs::Reading::primary_at))]
 fn primary<'a>(
     alloc: Global,
     text: &[u8],
@@ -190,7 +190,7 @@ fn primary<'a>(
 
 /// The two arguments of `min` or `max`.
 #[cycle(parser)]
-#[tactic(auto, using(crate::proofs::Sources::kept_words), unfolding(crate::specs::Reading::call_at))]
+#[tactic(auto, using(crate::specs::SourceLaws::kept_words), unfolding(crate::specs::Reading::call_at))]
 fn call<'a>(
     alloc: Global,
     text: &[u8],
@@ -218,7 +218,7 @@ fn call<'a>(
 
 /// The three arguments of `select`.
 #[cycle(parser)]
-#[tactic(auto, using(crate::proofs::Sources::kept_words), unfolding(crate::specs::Reading::select_at))]
+#[tactic(auto, using(crate::specs::SourceLaws::kept_words), unfolding(crate::specs::Reading::select_at))]
 fn select<'a>(
     alloc: Global,
     text: &[u8],

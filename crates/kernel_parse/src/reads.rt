@@ -1,53 +1,36 @@
 //! Expressions with no parts: numbers, places, and reads of variables.
 ghost use Rattle.std.specs.Prelude.{◌≡◌, ◌+◌, ◌<◌, ◌^◌, length, All, IfOk, IfSome, Ok};
-ghost use Rattle.kernel_parse.specs.Reading.{Gives, parsed, signed_from, signed_at, offset_at, read_by, fine_at, coarse_at, own_at, variable_at, read_at, leaf_at};
+ghost use Rattle.kernel_parse.specs.Reading.{Gives, parsed, offset_at, read_by, fine_at, coarse_at, own_at, variable_at, read_at, leaf_at};
 ghost use Rattle.kernel_parse.specs.Source.{LiesIn, IsBehind, CanRead, Extends, lexemes};
 
 use crate::fault::ExprFault;
 use crate::tokens::{
-    behind_sign, behind_word, split_atom, split_dot_name, split_fine, split_name, split_number,
+    behind_sign, behind_word, split_atom, split_dot_name, split_fine, split_name, split_signed,
     split_store,
 };
 use crate::tree::{Tree, leaf};
 use kernel_ast::{Expr, How, Read, Store};
 use uts_lex::{Names, Token};
 
-/// A number or `-` and a number, and the tokens behind it.
-#[tactic(auto, using(crate::proofs::Sources::IsBehind_trans), unfolding(crate::specs::Reading::signed_at))]
-fn signed<'a>(text: &[u8], tokens: &'a [Token]) -> Result<(i64, &'a [Token]), ExprFault>
-    requires { All (LiesIn text.now) tokens.now }
-    ensures read { Gives (λ r. (r.0, lexemes text.now r.1.now)) result (signed_at (lexemes text.now tokens.now)) }
-    ensures rest { IfOk result (λ r. IsBehind text.now tokens.now r.1.now) }
-{
-    if let Some(digits) = behind_sign(text, tokens, b"-") {
-        let (size, rest) = split_number(text, digits).ok_or(ExprFault::BadExpr)?;
-        let number = 0i64.checked_sub_unsigned(size).ok_or(ExprFault::BadExpr)?;
-        return Ok((number, rest));
-    }
-    let (number, rest) = split_number(text, tokens).ok_or(ExprFault::BadExpr)?;
-    let number = i64::try_from(number).map_err(|_| ExprFault::BadExpr)?;
-    Ok((number, rest))
-}
-
 /// Three numbers in brackets, by axis, and the tokens behind them.
-#[tactic(auto, using(crate::proofs::Sources::IsBehind_trans), unfolding(crate::specs::Reading::offset_at))]
+#[tactic(auto, using(crate::specs::SourceLaws::IsBehind_trans), unfolding(crate::specs::Reading::offset_at))]
 fn offset<'a>(text: &[u8], tokens: &'a [Token]) -> Result<([i64; 3], &'a [Token]), ExprFault>
     requires { All (LiesIn text.now) tokens.now }
     ensures read { Gives (λ r. (r.0, lexemes text.now r.1.now)) result (offset_at (lexemes text.now tokens.now)) }
     ensures rest { IfOk result (λ r. IsBehind text.now tokens.now r.1.now) }
 {
     let rest = behind_sign(text, tokens, b"[").ok_or(ExprFault::BadExpr)?;
-    let (x, rest) = signed(text, rest)?;
+    let (x, rest) = split_signed(text, rest).ok_or(ExprFault::BadExpr)?;
     let rest = behind_sign(text, rest, b",").ok_or(ExprFault::BadExpr)?;
-    let (y, rest) = signed(text, rest)?;
+    let (y, rest) = split_signed(text, rest).ok_or(ExprFault::BadExpr)?;
     let rest = behind_sign(text, rest, b",").ok_or(ExprFault::BadExpr)?;
-    let (z, rest) = signed(text, rest)?;
+    let (z, rest) = split_signed(text, rest).ok_or(ExprFault::BadExpr)?;
     let rest = behind_sign(text, rest, b"]").ok_or(ExprFault::BadExpr)?;
     Ok(([x, y, z], rest))
 }
 
 /// A read of the name at the offset that stands first, and the tokens behind it.
-#[tactic(auto, using(crate::proofs::Sources::kept_words, kernel_ast::specs::Size::depths_of_forms, kernel_ast::specs::Size::node_counts_of_forms))]
+#[tactic(auto, using(crate::specs::SourceLaws::kept_words, kernel_ast::specs::Size::depths_of_forms, kernel_ast::specs::Size::node_counts_of_forms))]
 fn read_by<'a>(
     text: &[u8],
     tokens: &'a [Token],
@@ -73,7 +56,7 @@ fn read_by<'a>(
 }
 
 /// What stands behind `STORE.` and a fine form.
-#[tactic(auto, using(crate::proofs::Sources::kept_words, kernel_ast::specs::Size::depths_of_forms, kernel_ast::specs::Size::node_counts_of_forms))]
+#[tactic(auto, using(crate::specs::SourceLaws::kept_words, kernel_ast::specs::Size::depths_of_forms, kernel_ast::specs::Size::node_counts_of_forms))]
 fn fine<'a>(
     text: &[u8],
     tokens: &'a [Token],
@@ -114,7 +97,7 @@ fn coarse<'a>(
 }
 
 /// What stands behind `STORE.`, where it is the name of a variable or a reduction.
-#[tactic(auto, using(crate::proofs::Sources::kept_words, kernel_ast::specs::Size::depths_of_forms, kernel_ast::specs::Size::node_counts_of_forms))]
+#[tactic(auto, using(crate::specs::SourceLaws::kept_words, kernel_ast::specs::Size::depths_of_forms, kernel_ast::specs::Size::node_counts_of_forms))]
 fn own<'a>(
     text: &[u8],
     tokens: &'a [Token],

@@ -2,7 +2,7 @@
 ghost use Rattle.std.specs.Prelude.{◌≡◌, All, IfSome};
 ghost use Rattle.std.specs.Option.{option_map};
 ghost use Rattle.kernel_parse.specs.Signs.{is_word, op_of, store_of, fine_of};
-ghost use Rattle.kernel_parse.specs.Reading.{behind, behind_sign, first_as, number_of_token, name_of_token, atom_of, dot_name_at, IsLeaf};
+ghost use Rattle.kernel_parse.specs.Reading.{behind, behind_sign, first_as, number_of_token, name_of_token, atom_of, dot_name_at, signed_at, IsLeaf};
 ghost use Rattle.kernel_parse.specs.Source.{LiesIn, IsBehind, lexemes};
 
 use crate::lexeme::{
@@ -11,8 +11,8 @@ use crate::lexeme::{
 use kernel_ast::{Expr, How, Op, Store};
 use uts_lex::Token;
 
-/// The tokens behind the sign.
-pub(crate) fn behind_sign<'a>(text: &[u8], tokens: &'a [Token], bytes: &[u8]) -> Option<&'a [Token]>
+/// The tokens behind the sign, where it stands first.
+pub fn behind_sign<'a>(text: &[u8], tokens: &'a [Token], bytes: &[u8]) -> Option<&'a [Token]>
     requires { All (LiesIn text.now) tokens.now }
     ensures read { option_map (λ rest. lexemes text.now rest.now) result ≡ behind_sign bytes.now (lexemes text.now tokens.now) }
     ensures rest { IfSome result (λ rest. IsBehind text.now tokens.now rest.now) }
@@ -25,8 +25,8 @@ pub(crate) fn behind_sign<'a>(text: &[u8], tokens: &'a [Token], bytes: &[u8]) ->
     }
 }
 
-/// The tokens behind the word.
-pub(crate) fn behind_word<'a>(text: &[u8], tokens: &'a [Token], bytes: &[u8]) -> Option<&'a [Token]>
+/// The tokens behind the word, where it stands first.
+pub fn behind_word<'a>(text: &[u8], tokens: &'a [Token], bytes: &[u8]) -> Option<&'a [Token]>
     requires { All (LiesIn text.now) tokens.now }
     ensures read { option_map (λ rest. lexemes text.now rest.now) result ≡ behind (is_word bytes.now) (lexemes text.now tokens.now) }
     ensures rest { IfSome result (λ rest. IsBehind text.now tokens.now rest.now) }
@@ -53,7 +53,8 @@ pub(crate) fn split_operator<'a>(
     Some((operator_of(text, first, kind)?, rest))
 }
 
-pub(crate) fn split_store<'a>(text: &[u8], tokens: &'a [Token]) -> Option<(Store, &'a [Token])>
+/// `old` or `new`, and the tokens behind it.
+pub fn split_store<'a>(text: &[u8], tokens: &'a [Token]) -> Option<(Store, &'a [Token])>
     requires { All (LiesIn text.now) tokens.now }
     ensures read { option_map (λ r. (r.0, lexemes text.now r.1.now)) result ≡ first_as store_of (lexemes text.now tokens.now) }
     ensures rest { IfSome result (λ r. IsBehind text.now tokens.now r.1.now) }
@@ -71,7 +72,8 @@ pub(crate) fn split_fine<'a>(text: &[u8], tokens: &'a [Token]) -> Option<(How, &
     Some((fine_of(text, first)?, rest))
 }
 
-pub(crate) fn split_number<'a>(text: &[u8], tokens: &'a [Token]) -> Option<(u64, &'a [Token])>
+/// A number below 2^64, and the tokens behind it.
+pub fn split_number<'a>(text: &[u8], tokens: &'a [Token]) -> Option<(u64, &'a [Token])>
     requires { All (LiesIn text.now) tokens.now }
     ensures read { option_map (λ r. (r.0, lexemes text.now r.1.now)) result ≡ first_as number_of_token (lexemes text.now tokens.now) }
     ensures rest { IfSome result (λ r. IsBehind text.now tokens.now r.1.now) }
@@ -90,10 +92,8 @@ pub(crate) fn split_atom<'a>(text: &[u8], tokens: &'a [Token]) -> Option<(Expr, 
     Some((atom_of(text, first)?, rest))
 }
 
-pub(crate) fn split_name<'t, 'a>(
-    text: &'t [u8],
-    tokens: &'a [Token],
-) -> Option<(&'t [u8], &'a [Token])>
+/// A word that may be a name, and the tokens behind it.
+pub fn split_name<'t, 'a>(text: &'t [u8], tokens: &'a [Token]) -> Option<(&'t [u8], &'a [Token])>
     requires { All (LiesIn text.now) tokens.now }
     ensures read { option_map (λ r. (r.0.now, lexemes text.now r.1.now)) result ≡ first_as name_of_token (lexemes text.now tokens.now) }
     ensures rest { IfSome result (λ r. IsBehind text.now tokens.now r.1.now) }
@@ -102,8 +102,23 @@ pub(crate) fn split_name<'t, 'a>(
     Some((name_of(text, first)?, rest))
 }
 
+/// A number or `-` and a number, from -2^63 to 2^63 - 1, and the tokens behind it.
+#[tactic(auto, using(crate::specs::SourceLaws::IsBehind_trans), unfolding(crate::specs::Reading::signed_at))]
+pub fn split_signed<'a>(text: &[u8], tokens: &'a [Token]) -> Option<(i64, &'a [Token])>
+    requires { All (LiesIn text.now) tokens.now }
+    ensures read { option_map (λ r. (r.0, lexemes text.now r.1.now)) result ≡ signed_at (lexemes text.now tokens.now) }
+    ensures rest { IfSome result (λ r. IsBehind text.now tokens.now r.1.now) }
+{
+    let Some(digits) = behind_sign(text, tokens, b"-") else {
+        let (number, rest) = split_number(text, tokens)?;
+        return Some((i64::try_from(number).ok()?, rest));
+    };
+    let (size, rest) = split_number(text, digits)?;
+    Some((0i64.checked_sub_unsigned(size)?, rest))
+}
+
 /// A name behind a dot.
-#[tactic(auto, using(crate::proofs::Sources::IsBehind_trans), unfolding(crate::specs::Reading::dot_name_at))]
+#[tactic(auto, using(crate::specs::SourceLaws::IsBehind_trans), unfolding(crate::specs::Reading::dot_name_at))]
 pub(crate) fn split_dot_name<'t, 'a>(
     text: &'t [u8],
     tokens: &'a [Token],

@@ -63,51 +63,53 @@ module _ (s : Sweep) (parts : Parts) (step : ℕ) (numbers : List ℤ) (is : IsS
       (λ a b c in_x in_y in_z. number_at-next (cell a b c)))
       ∙ rw (is.step, is.along_x, is.along_y, is.along_z) refl
 
--- a step that gives what the problem means adds what the dump has for it
-pub next_text-thin : (t : Thin) (parts : Parts) (are : ArePartsOf parts t) (n : ℕ) (numbers : List ℤ) →
-    AgreeAtCells (next_number parts n numbers) (field_of t n) parts.x parts.y parts.z →
-    next_text parts n numbers ≡ step_text (thin_problem t) n
-unfolding next_text
-next_text-thin t parts are n numbers agree =
-    ap (λ l. (step_line n ++ field_line parts.name.now 0 0 (cells_of parts.x parts.y parts.z)) ++ l)
-    (lines_of_cells-ext (next_number parts n numbers) (field_of t n) parts.x parts.y parts.z agree)
-    ∙ rw (are.name, are.along_x, are.along_y, are.along_z) (sym (step_text-thin t n))
+-- wherever the statements of the problem stand
+module _ (line_of : ℕ → ℕ) where
+  -- a step that gives what the problem means adds what the dump has for it
+  pub next_text-thin : (t : Thin) (parts : Parts) (are : ArePartsOf parts t) (n : ℕ) (numbers : List ℤ) →
+      AgreeAtCells (next_number parts n numbers) (field_of line_of t n) parts.x parts.y parts.z →
+      next_text parts n numbers ≡ step_text (thin_problem t line_of) n
+  unfolding next_text
+  next_text-thin t parts are n numbers agree =
+      ap (λ l. (step_line n ++ field_line parts.name.now 0 0 (cells_of parts.x parts.y parts.z)) ++ l)
+      (lines_of_cells-ext (next_number parts n numbers) (field_of line_of t n) parts.x parts.y parts.z agree)
+      ∙ rw (are.name, are.along_x, are.along_y, are.along_z) (sym (step_text-thin line_of t n))
 
--- the numbers before a step are those of the step before
-abbrev pub AreBefore : Thin → Parts → ℕ → List ℤ → Type 0
-AreBefore t parts n numbers = (m : ℕ) → n ≡ suc m → numbers ≡ numbers_of_cells (field_of t m) parts.x parts.y parts.z
+  -- the numbers before a step are those of the step before
+  abbrev pub AreBefore : Thin → Parts → ℕ → List ℤ → Type 0
+  AreBefore t parts n numbers = (m : ℕ) → n ≡ suc m → numbers ≡ numbers_of_cells (field_of line_of t m) parts.x parts.y parts.z
 
-agree : (t : Thin) (parts : Parts) (are : ArePartsOf parts t) (n : ℕ) (numbers : List ℤ) → AreBefore t parts n numbers →
-    AgreeAtCells (next_number parts n numbers) (field_of t n) parts.x parts.y parts.z
-agree t parts are zero numbers before = first_numbers t parts are numbers
-agree t parts are (suc m) numbers before = later_numbers t parts are m numbers (before m refl)
+  agree : (t : Thin) (parts : Parts) (are : ArePartsOf parts t) (n : ℕ) (numbers : List ℤ) → AreBefore t parts n numbers →
+      AgreeAtCells (next_number parts n numbers) (field_of line_of t n) parts.x parts.y parts.z
+  agree t parts are zero numbers before = first_numbers line_of t parts are numbers
+  agree t parts are (suc m) numbers before = later_numbers line_of t parts are m numbers (before m refl)
 
--- a step then adds what the dump has for it, and leaves what the problem means at its end
-pub next_text-before : (t : Thin) (parts : Parts) (are : ArePartsOf parts t) (n : ℕ) (numbers : List ℤ) → AreBefore t parts n numbers →
-    next_text parts n numbers ≡ step_text (thin_problem t) n
-next_text-before t parts are n numbers before = next_text-thin t parts are n numbers (agree t parts are n numbers before)
+  -- a step then adds what the dump has for it, and leaves what the problem means at its end
+  pub next_text-before : (t : Thin) (parts : Parts) (are : ArePartsOf parts t) (n : ℕ) (numbers : List ℤ) → AreBefore t parts n numbers →
+      next_text parts n numbers ≡ step_text (thin_problem t line_of) n
+  next_text-before t parts are n numbers before = next_text-thin t parts are n numbers (agree t parts are n numbers before)
 
-pub numbers_after : (t : Thin) (parts : Parts) (are : ArePartsOf parts t) (n : ℕ) (numbers next : List ℤ) → AreBefore t parts n numbers →
-    next ≡ numbers_of_cells (next_number parts n numbers) parts.x parts.y parts.z → AreBefore t parts (n + 1) next
-numbers_after t parts are n numbers next before is m at =
-    is ∙ numbers_of_cells-ext (next_number parts n numbers) (field_of t n) parts.x parts.y parts.z (agree t parts are n numbers before)
-    ∙ ap (λ k. numbers_of_cells (field_of t k) parts.x parts.y parts.z) (let e : n ≡ m = omega arith in e)
+  pub numbers_after : (t : Thin) (parts : Parts) (are : ArePartsOf parts t) (n : ℕ) (numbers next : List ℤ) → AreBefore t parts n numbers →
+      next ≡ numbers_of_cells (next_number parts n numbers) parts.x parts.y parts.z → AreBefore t parts (n + 1) next
+  numbers_after t parts are n numbers next before is m at =
+      is ∙ numbers_of_cells-ext (next_number parts n numbers) (field_of line_of t n) parts.x parts.y parts.z (agree t parts are n numbers before)
+      ∙ ap (λ k. numbers_of_cells (field_of line_of t k) parts.x parts.y parts.z) (let e : n ≡ m = omega arith in e)
 
--- every step of a thin problem is dumped
-every_step : (t : Thin) (n : ℕ) → (if is_dumped (thin_problem t) n then step_text (thin_problem t) n else []) ≡ step_text (thin_problem t) n
-every_step t n =
-    let whole : (n % 1 == 0) ≡ true = grind (arith, mod-one n) in
-    ap (λ b. if b || (n == t.steps) then step_text (thin_problem t) n else []) whole
+  -- every step of a thin problem is dumped
+  every_step : (t : Thin) (n : ℕ) → (if is_dumped (thin_problem t line_of) n then step_text (thin_problem t line_of) n else []) ≡ step_text (thin_problem t line_of) n
+  every_step t n =
+      let whole : (n % 1 == 0) ≡ true = grind (arith, mod-one n) in
+      ap (λ b. if b || (n == t.steps) then step_text (thin_problem t line_of) n else []) whole
 
-pub dump_text-thin : (t : Thin) → dump_text (thin_problem t) []
-    ≡ line (codes "dump 1") ++ (joined (step_text (thin_problem t)) (t.steps + 1) ++ line (codes "end"))
-unfolding dump_text
-dump_text-thin t =
-    let steps = flat_map (λ n. if is_dumped (thin_problem t) n then step_text (thin_problem t) n else []) (counted 0 (t.steps + 1)) in
-    let first = line (codes "dump 1") in
-    let last = line (codes "end") in
-    ap (λ u. u ++ last) (append-nil (first ++ steps))
-    ∙ append_assoc first steps last
-    ∙ ap (λ u. first ++ (u ++ last))
-    (flat_map-counted (λ n. if is_dumped (thin_problem t) n then step_text (thin_problem t) n else []) (t.steps + 1)
-    ∙ joined-ext _ _ (t.steps + 1) (λ n h. every_step t n))
+  pub dump_text-thin : (t : Thin) → dump_text (thin_problem t line_of) []
+      ≡ line (codes "dump 1") ++ (joined (step_text (thin_problem t line_of)) (t.steps + 1) ++ line (codes "end"))
+  unfolding dump_text
+  dump_text-thin t =
+      let steps = flat_map (λ n. if is_dumped (thin_problem t line_of) n then step_text (thin_problem t line_of) n else []) (counted 0 (t.steps + 1)) in
+      let first = line (codes "dump 1") in
+      let last = line (codes "end") in
+      ap (λ u. u ++ last) (append-nil (first ++ steps))
+      ∙ append_assoc first steps last
+      ∙ ap (λ u. first ++ (u ++ last))
+      (flat_map-counted (λ n. if is_dumped (thin_problem t line_of) n then step_text (thin_problem t line_of) n else []) (t.steps + 1)
+      ∙ joined-ext _ _ (t.steps + 1) (λ n h. every_step t n))

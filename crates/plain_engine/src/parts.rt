@@ -1,4 +1,4 @@
-ghost use Rattle.std.specs.Prelude.{◌≡◌, ◌==◌, if◌then◌else◌, ◌<◌, ◌≤◌, ◌*◌, Some, length, slice_get};
+ghost use Rattle.std.specs.Prelude.{◌≡◌, ◌==◌, if◌then◌else◌, ◌<◌, ◌≤◌, ◌*◌, ℕ, Some, length, slice_get};
 ghost use Rattle.problem_types.specs.Thin.{IsThin, IsThinProblem, thin_problem};
 ghost use Rattle.problem_types.specs.declared.thin.Thin.{Thin};
 
@@ -40,7 +40,7 @@ impl<'a> Parts<'a> {
     /// The parts of a thin problem.
     pub fn of(p: &'a Problem) -> Parts<'a>
         requires { IsThinProblem p.now }
-        ensures { (t : Thin) → IsThin t → p.now ≡ thin_problem t → ArePartsOf result t }
+        ensures { (t : Thin) (line_of : ℕ → ℕ) → IsThin t → p.now ≡ thin_problem t line_of → ArePartsOf result t }
     {
         let level = first(&p.levels);
         let high = first(&level.boxes).hi;

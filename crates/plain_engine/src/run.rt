@@ -1,4 +1,4 @@
-ghost use Rattle.std.specs.Prelude.{◌≡◌, ◌==◌, if◌then◌else◌, ◌+◌, ◌*◌, ◌≤◌, [], length, OnOk, IfOk, IsErrOf};
+ghost use Rattle.std.specs.Prelude.{◌≡◌, ◌==◌, if◌then◌else◌, ◌+◌, ◌*◌, ◌≤◌, ℕ, [], length, OnOk, IfOk, IsErrOf};
 ghost use Rattle.uts_io.specs.Streams.{Rose, grown, GrewByPrefix};
 ghost use Rattle.problem_types.specs.Dump.{dump_text, step_text};
 ghost use Rattle.problem_types.specs.Thin.{IsThin, IsThinProblem, thin_problem};
@@ -33,9 +33,9 @@ pub fn run_plain<O: Sink>(alloc: Global, problem: &Problem, sink: &mut O) -> Res
 
 /// Runs all steps, and writes what each adds to the dump.
 fn write_steps<O: Sink>(alloc: Global, parts: &Parts, sink: &mut O) -> Result<(), RunFault>
-    ensures { (t : Thin) → IsThin t → ArePartsOf parts.now t →
+    ensures { (t : Thin) (line_of : ℕ → ℕ) → IsThin t → ArePartsOf parts.now t →
         Writes O.after (O.taken sink.old) (O.taken sink.new) (O.faults sink.old) (O.faults sink.new)
-        result (joined (step_text (thin_problem t)) (t.steps + 1)) }
+        result (joined (step_text (thin_problem t line_of)) (t.steps + 1)) }
 {
     let mut line = Vec::new(alloc);
     let mut numbers = vec![in alloc; parts.outside; parts.x * (parts.y * parts.z)]?;

@@ -1,11 +1,11 @@
-//! Numbers of kernels and a step, counted by hand.
-use crate::RunFault;
+//! Numbers of kernels, a step and a whole run, counted by hand.
 use crate::evaluate::{Place, evaluate};
 use crate::field::Field;
 use crate::step::write_step;
 use crate::sweep::Sweep;
-use problem_types::{Expr, How, Op, Read, Store};
-use sqlite_items::Boxed;
+use crate::{RunFault, run_plain};
+use problem_types::{Expr, How, NoMemory, Op, Problem, Read, Store, Term, Thin, is_thin};
+use sqlite_items::{Boxed, Items};
 use std::alloc::{AllocError, Global};
 use std::test::Fail;
 use uts_io::MemSink;
@@ -93,5 +93,49 @@ fn a_step_of_two_rows(rt: HostRuntime) -> Result<(), Fail> {
     let stopped = write_step(alloc, b"u", &sweep, &mut line, &mut full).err();
     assert_eq!(rt; stopped, Some(RunFault::SinkFault));
     assert_eq!(rt; full.bytes(), b"step 1\nfield u 0 0 0".as_slice());
+    Ok(())
+}
+
+// Two cells that start at 3. In the one step each becomes one more than the cell before it.
+fn shifted(alloc: Global) -> Result<Problem, NoMemory> {
+    let mut terms = Items::new(alloc);
+    terms.push(Term::Old([-1, 0, 0]))?;
+    terms.push(Term::Literal(1))?;
+    let thin = Thin {
+        steps: 1,
+        ghost_cells: 1,
+        size: [2, 1, 1],
+        outside: -5,
+        start: 3,
+        terms,
+    };
+    thin.problem(alloc)
+}
+
+// What the run of a problem gives, where it is one that is run.
+fn run_of(alloc: Global, problem: &Problem, sink: &mut MemSink) -> Option<Result<(), RunFault>> {
+    if is_thin(problem) {
+        Some(run_plain(alloc, problem, sink))
+    } else {
+        None
+    }
+}
+
+#[test]
+fn a_run_of_one_step(rt: HostRuntime) -> Result<(), Fail> {
+    let alloc = rt.alloc();
+    let problem = shifted(alloc)?;
+    let mut sink = MemSink::new(alloc, 1000, Vec::new(alloc))?;
+    assert_eq!(rt; run_of(alloc, &problem, &mut sink), Some(Ok(())));
+    assert_eq!(rt;
+        sink.bytes(),
+        b"dump 1\nstep 0\nfield u 0 0 0 0 0 2 1 1\n3 3\nstep 1\nfield u 0 0 0 0 0 2 1 1\n-4 4\nend\n".as_slice()
+    );
+    let mut stops = MemSink::new(alloc, 1000, vec![in alloc; 2; 1]?)?;
+    assert_eq!(rt;
+        run_of(alloc, &problem, &mut stops),
+        Some(Err(RunFault::SinkFault))
+    );
+    assert_eq!(rt; stops.bytes(), b"dump 1\nstep 0\n".as_slice());
     Ok(())
 }

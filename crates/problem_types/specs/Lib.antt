@@ -6,3 +6,4 @@ pub mod WholeField
 pub mod Ascent
 pub mod Dump
 pub mod Thin
+pub mod ThinParts

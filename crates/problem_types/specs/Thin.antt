@@ -58,54 +58,61 @@ pub record IsThin (t : Thin) : Type 0 where
   pub few_terms : length t.terms ≤ 64
   pub terms : All (IsThinTerm t.ghost_cells) t.terms
 
-abbrev pub thin_level : List ℕ → Level
-thin_level size = record {
-  line = 6;
+abbrev pub thin_names : List (List ℕ)
+thin_names = codes "u" ∷ codes "start" ∷ codes "shift" ∷ []
+
+-- the level of one patch: the lines are those of the level, its box and its patch
+abbrev pub thin_level : ℕ → ℕ → ℕ → List ℕ → Level
+thin_level line box_line patch_line size = record {
+  line = line;
   ratio = 1;
-  boxes = record { line = 7; lo = 0 ∷ 0 ∷ 0 ∷ []; hi = size } ∷ [];
-  patches = record { line = 8; lo = 0 ∷ 0 ∷ 0 ∷ []; hi = size } ∷ [];
+  boxes = record { line = box_line; lo = 0 ∷ 0 ∷ 0 ∷ []; hi = size } ∷ [];
+  patches = record { line = patch_line; lo = 0 ∷ 0 ∷ 0 ∷ []; hi = size } ∷ [];
 }
 
-abbrev pub thin_start : ℤ → Task
-thin_start start = record {
-  line = 11;
+-- the task that gives each cell its first number: the lines are those of the task and of what it writes
+abbrev pub thin_start : ℕ → ℕ → ℤ → Task
+thin_start line write_line start = record {
+  line = line;
   name = 1;
   levels = 0 ∷ [];
   materials = 0 ∷ [];
   requirements = [];
-  writes = record { line = 12; kind = Computes; name = 0; expr = Constant start } ∷ [];
+  writes = record { line = write_line; kind = Computes; name = 0; expr = Constant start } ∷ [];
 }
 
-abbrev pub thin_shift : ℕ → List Term → Task
-thin_shift ghost_cells terms = record {
-  line = 14;
+-- the task of each step: the lines are those of the task, of what it requires and of what it writes
+abbrev pub thin_shift : ℕ → ℕ → ℕ → ℕ → List Term → Task
+thin_shift line require_line write_line ghost_cells terms = record {
+  line = line;
   name = 2;
   levels = 0 ∷ [];
   materials = 0 ∷ [];
-  requirements = record { line = 15; store = OldStore; what = OnLevel 0 (record { kind = Cells; n = ghost_cells }) } ∷ [];
-  writes = record { line = 16; kind = Computes; name = 0; expr = sum_expression terms } ∷ [];
+  requirements =
+      record { line = require_line; store = OldStore; what = OnLevel 0 (record { kind = Cells; n = ghost_cells }) } ∷ [];
+  writes = record { line = write_line; kind = Computes; name = 0; expr = sum_expression terms } ∷ [];
 }
 
--- the problem of a thin text, its statements on lines 1 to 18
-abbrev pub thin_problem : Thin → Problem
-thin_problem t = record {
-  names = codes "u" ∷ codes "start" ∷ codes "shift" ∷ [];
-  version = record { line = 1; value = 1 };
-  steps = record { line = 2; value = t.steps };
-  dump = record { line = 3; value = 1 };
-  ghost_limit = record { line = 4; value = t.ghost_cells };
-  materials = record { line = 5; value = 1 };
-  levels = thin_level t.size ∷ [];
-  vars = record { line = 9; name = 0; centring = Cell; outside = t.outside } ∷ [];
+-- the problem of a thin text: `at` gives the line of each of its 18 statements, counted from 0 in their order
+abbrev pub thin_problem : Thin → (ℕ → ℕ) → Problem
+thin_problem t at = record {
+  names = thin_names;
+  version = record { line = at 0; value = 1 };
+  steps = record { line = at 1; value = t.steps };
+  dump = record { line = at 2; value = 1 };
+  ghost_limit = record { line = at 3; value = t.ghost_cells };
+  materials = record { line = at 4; value = 1 };
+  levels = thin_level (at 5) (at 6) (at 7) t.size ∷ [];
+  vars = record { line = at 8; name = 0; centring = Cell; outside = t.outside } ∷ [];
   reductions = [];
-  init_line = 10;
-  init = thin_start t.start ∷ [];
-  timestep_line = 13;
-  timestep = thin_shift t.ghost_cells t.terms ∷ [];
-  keeps = record { line = 17; name = 0 } ∷ [];
-  end_line = 18;
+  init_line = at 9;
+  init = thin_start (at 10) (at 11) t.start ∷ [];
+  timestep_line = at 12;
+  timestep = thin_shift (at 13) (at 14) (at 15) t.ghost_cells t.terms ∷ [];
+  keeps = record { line = at 16; name = 0 } ∷ [];
+  end_line = at 17;
 }
 
--- the problem is that of a thin text
+-- the problem is that of a thin text, line numbers aside
 abbrev pub IsThinProblem : Problem → Type 0
-IsThinProblem p = (t : Thin) × IsThin t × (p ≡ thin_problem t)
+IsThinProblem p = (t : Thin) × (at : ℕ → ℕ) × IsThin t × (p ≡ thin_problem t at)

@@ -10,6 +10,7 @@ mod problem;
 #[cfg(test)]
 mod tests;
 mod thin;
+mod thin_parts;
 
 pub use copying::copy;
 pub use form::in_form;
@@ -21,3 +22,4 @@ pub use problem::{
     Var, What, Write, WriteKind,
 };
 pub use thin::{Term, Thin};
+pub use thin_parts::is_thin;

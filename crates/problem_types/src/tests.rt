@@ -1,6 +1,6 @@
 use crate::{
-    Centring, Expr, Fold, Name, NoMemory, Op, Problem, Reduction, Term, Thin, Var, copy, in_form,
-    reduction_of, var_of,
+    Centring, Expr, Fold, Keep, Name, NoMemory, Op, Problem, Reduction, Term, Thin, Var, copy,
+    in_form, is_thin, reduction_of, var_of,
 };
 use sqlite_items::Items;
 use std::alloc::Global;
@@ -52,6 +52,54 @@ fn a_kernel_adds_its_terms_from_the_left(rt: HostRuntime) -> Result<(), Fail> {
 #[test]
 fn a_name_is_its_bytes(rt: HostRuntime) -> Result<(), Fail> {
     assert_eq!(rt; Name::new(rt.alloc(), b"u")?.bytes(), b"u".as_slice());
+    Ok(())
+}
+
+#[test]
+fn lines_are_no_part_of_what_is_thin(rt: HostRuntime) -> Result<(), Fail> {
+    let mut problem = two_terms(rt.alloc())?;
+    assert!(rt; is_thin(&problem));
+    problem.version.line = 3;
+    problem.end_line = 40;
+    assert!(rt; is_thin(&problem));
+    problem.version.value = 2;
+    assert!(rt; !is_thin(&problem));
+    Ok(())
+}
+
+#[test]
+fn a_second_keep_is_not_thin(rt: HostRuntime) -> Result<(), Fail> {
+    let mut problem = two_terms(rt.alloc())?;
+    problem.keeps.push(Keep { line: 18, name: 0 })?;
+    assert!(rt; !is_thin(&problem));
+    Ok(())
+}
+
+// Whether a problem of so many terms is thin, each of which reads at this offset along x.
+fn is_thin_with(alloc: Global, terms: u32, offset: i64) -> Result<bool, NoMemory> {
+    let mut list = Items::new(alloc);
+    for _ in 0..terms {
+        list.push(Term::Old([offset, 0, 0]))?;
+    }
+    let thin = Thin {
+        steps: 65_535,
+        ghost_cells: 8,
+        size: [4096, 8, 8],
+        outside: 0,
+        start: 0,
+        terms: list,
+    };
+    Ok(is_thin(&thin.problem(alloc)?))
+}
+
+#[test]
+fn thin_problems_have_limits(rt: HostRuntime) -> Result<(), Fail> {
+    let alloc = rt.alloc();
+    assert!(rt; is_thin_with(alloc, 64, 8)?);
+    assert!(rt; is_thin_with(alloc, 1, -8)?);
+    assert!(rt; !is_thin_with(alloc, 65, 8)?);
+    assert!(rt; !is_thin_with(alloc, 1, 9)?);
+    assert!(rt; !is_thin_with(alloc, 1, -9)?);
     Ok(())
 }
 

@@ -1,5 +1,5 @@
-ghost use Rattle.std.specs.Prelude.{◌≡◌, [], ◌∷◌, codes, IfOk};
-ghost use Rattle.problem_types.specs.Thin.{term_expression, plus_terms, sum_expression, thin_level, thin_start, thin_shift};
+ghost use Rattle.std.specs.Prelude.{◌≡◌, [], ◌∷◌, IfOk};
+ghost use Rattle.problem_types.specs.Thin.{term_expression, plus_terms, sum_expression, thin_names, thin_level, thin_start, thin_shift};
 
 use crate::{
     BoxLine, Centring, Expr, Ghost, GhostKind, How, Keep, Level, Name, NoMemory, Num, Op, Problem,
@@ -78,7 +78,7 @@ fn one<T: Drop>(alloc: Global, item: T) -> Result<Items<T>, NoMemory>
 }
 
 fn names(alloc: Global) -> Result<Items<Name>, NoMemory>
-    ensures { IfOk result (λ names. names ≡ codes "u" ∷ codes "start" ∷ codes "shift" ∷ []) }
+    ensures { IfOk result (λ names. names ≡ thin_names) }
 {
     let mut names = one(alloc, Name::new(alloc, b"u")?)?;
     names.push(Name::new(alloc, b"start")?)?;
@@ -88,7 +88,7 @@ fn names(alloc: Global) -> Result<Items<Name>, NoMemory>
 
 // The level of one patch.
 fn level(alloc: Global, size: [u64; 3]) -> Result<Level, NoMemory>
-    ensures { IfOk result (λ l. l ≡ thin_level size) }
+    ensures { IfOk result (λ l. l ≡ thin_level 6 7 8 size) }
 {
     let cells = |line: u32| BoxLine {
         line,
@@ -105,7 +105,7 @@ fn level(alloc: Global, size: [u64; 3]) -> Result<Level, NoMemory>
 
 // The task that gives each cell its first number.
 fn start_task(alloc: Global, start: i64) -> Result<Task, NoMemory>
-    ensures { IfOk result (λ t. t ≡ thin_start start) }
+    ensures { IfOk result (λ t. t ≡ thin_start 11 12 start) }
 {
     let write = Write {
         line: 12,
@@ -125,7 +125,7 @@ fn start_task(alloc: Global, start: i64) -> Result<Task, NoMemory>
 
 // The task of each step.
 fn shift_task(alloc: Global, ghost_cells: u64, terms: &[Term]) -> Result<Task, NoMemory>
-    ensures { IfOk result (λ t. t ≡ thin_shift ghost_cells terms.now) }
+    ensures { IfOk result (λ t. t ≡ thin_shift 14 15 16 ghost_cells terms.now) }
 {
     let layers = Ghost {
         kind: GhostKind::Cells,
@@ -153,11 +153,12 @@ fn shift_task(alloc: Global, ghost_cells: u64, terms: &[Term]) -> Result<Task, N
 }
 
 impl Thin {
+    ghost use Rattle.std.specs.Prelude.{◌+◌};
     ghost use Rattle.problem_types.specs.Thin.{thin_problem};
 
-    /// The problem of these choices.
+    /// The problem of these choices, its statements on lines 1 to 18.
     pub fn problem(&self, alloc: Global) -> Result<Problem, NoMemory>
-        ensures { IfOk result (λ p. p ≡ thin_problem self.now) }
+        ensures { IfOk result (λ p. p ≡ thin_problem self.now (λ k. k + 1)) }
     {
         Ok(Problem {
             names: names(alloc)?,

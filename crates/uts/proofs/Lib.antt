@@ -1,5 +1,2 @@
-pub mod OneProblem
-pub mod Spelling
 pub mod Statuses
-pub mod Terms
 pub mod Told

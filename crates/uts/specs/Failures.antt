@@ -1,14 +1,16 @@
 -- How a failure is told, and what each one means.
-use Rattle.std.specs.Prelude.{◌≡◌, ◌⊎◌, ℕ, List, codes, Option, IfSome}
+use Rattle.std.specs.Prelude.{◌≡◌, ◌⊎◌, ℕ, List, ◌++◌, codes, decimal, Option, IfSome}
 use Rattle.uts_io.specs.Streams.{Rose, grown, GrewByPrefix}
 use Rattle.uts_io.specs.declared.whole.ReadAll.{ReadAll}
 use Rattle.uts_io.specs.declared.whole.ReadAll.TheVariants as read
+use Rattle.problem_file.specs.declared.fault.ParseFault.{ParseFault}
+use Rattle.problem_file.specs.declared.fault.ParseFault.TheVariants as parsed
 use Rattle.plain_engine.specs.declared.fault.RunFault.{RunFault}
 use Rattle.plain_engine.specs.declared.fault.RunFault.TheVariants as run
 use Rattle.problem_types.specs.Dump.{line}
-use Rattle.uts.specs.Answer.{IsTooLong, IsNotYet}
+use Rattle.uts.specs.Answer.{IsTooLong, IsBadText, IsNotYet}
 use Rattle.uts.specs.declared.failure.Failure.{Failure}
-use Rattle.uts.specs.declared.failure.Failure.TheVariants.{Usage, TooLong, NotYet, ReadFault, WriteFault, NoMemory}
+use Rattle.uts.specs.declared.failure.Failure.TheVariants.{Usage, TooLong, BadText, NotYet, ReadFault, WriteFault, NoMemory}
 
 abbrev pub of_run : RunFault → Failure
 of_run run.SinkFault = WriteFault
@@ -19,9 +21,14 @@ of_read read.Failed = ReadFault
 of_read read.TooLong = TooLong
 of_read read.NoMemory = NoMemory
 
+abbrev pub of_parse : ParseFault → Failure
+of_parse (parsed.BadText bad) = BadText bad
+of_parse parsed.NoMemory = NoMemory
+
 abbrev pub status_of : Failure → ℕ
 status_of Usage = 2
 status_of TooLong = 1
+status_of (BadText bad) = 1
 status_of NotYet = 1
 status_of ReadFault = 3
 status_of WriteFault = 4
@@ -30,6 +37,7 @@ status_of NoMemory = 5
 abbrev pub status_after_fault : Failure → ℕ
 status_after_fault Usage = 4
 status_after_fault TooLong = 4
+status_after_fault (BadText bad) = 4
 status_after_fault NotYet = 4
 status_after_fault ReadFault = 3
 status_after_fault WriteFault = 4
@@ -38,6 +46,7 @@ status_after_fault NoMemory = 5
 abbrev pub line_of : Failure → List ℕ
 line_of Usage = line (codes "usage: plain, check, graph, make N, run W, mill N W")
 line_of TooLong = line (codes "refused: too long")
+line_of (BadText bad) = line (codes "refused: bad text, line " ++ decimal bad)
 line_of NotYet = line (codes "refused: not yet")
 line_of ReadFault = line (codes "read fault")
 line_of WriteFault = line (codes "write fault")
@@ -49,10 +58,26 @@ IsTold failure after old new before now status =
     ((status ≡ status_of failure) × (new ≡ grown after old (line_of failure)))
     ⊎ ((status ≡ status_after_fault failure) × Rose before now × GrewByPrefix after old new (line_of failure))
 
+-- a failure whose line is put together in memory
+abbrev pub IsBuilt : Failure → Type 0
+IsBuilt Usage = ⊥
+IsBuilt TooLong = ⊥
+IsBuilt (BadText bad) = Unit {0}
+IsBuilt NotYet = ⊥
+IsBuilt ReadFault = ⊥
+IsBuilt WriteFault = ⊥
+IsBuilt NoMemory = ⊥
+
+-- A failure was told so, or its line had no room in memory, and that was told so.
+abbrev pub IsReported : Failure → (List ℕ → List ℕ → List ℕ) → Option (List ℕ) → Option (List ℕ) → ℕ → ℕ → ℕ → Type 0
+IsReported failure after old new before now status =
+    IsTold failure after old new before now status ⊎ (IsBuilt failure × IsTold NoMemory after old new before now status)
+
 -- why a failure of the command comes, where the source had this text
 abbrev pub IsReason : Option (List ℕ) → Type 0 → Type 0 → Failure → Type 0
 IsReason text source_rose out_rose Usage = ⊥
 IsReason text source_rose out_rose TooLong = IfSome text IsTooLong
+IsReason text source_rose out_rose (BadText bad) = IfSome text (λ t. IsBadText t bad)
 IsReason text source_rose out_rose NotYet = IfSome text IsNotYet
 IsReason text source_rose out_rose ReadFault = source_rose
 IsReason text source_rose out_rose WriteFault = out_rose
@@ -62,6 +87,7 @@ IsReason text source_rose out_rose NoMemory = Unit {0}
 abbrev pub IsEarly : Failure → Type 0
 IsEarly Usage = Unit {0}
 IsEarly TooLong = Unit {0}
+IsEarly (BadText bad) = Unit {0}
 IsEarly NotYet = Unit {0}
 IsEarly ReadFault = Unit {0}
 IsEarly WriteFault = ⊥

@@ -1,7 +1,7 @@
 ghost use Rattle.std.specs.Prelude.{◌≡◌};
-ghost use Rattle.uts.specs.declared.failure.Failure.TheVariants as failure;
 
 use plain_engine::RunFault;
+use problem_file::ParseFault;
 use uts_io::ReadAll;
 
 /// Why the program did not do what its words ask.
@@ -11,7 +11,9 @@ pub enum Failure {
     Usage,
     /// The text is longer than a problem may be.
     TooLong,
-    /// The text spells no problem that is run yet.
+    /// The text spells no problem. This is its first bad line, counted from 1.
+    BadText { line: u32 },
+    /// The text spells a problem that is not run yet.
     NotYet,
     /// The source failed.
     ReadFault,
@@ -48,23 +50,28 @@ impl From<ReadAll> for Failure {
     }
 }
 
-impl From<problem_types::NoMemory> for Failure {
-    ghost from_gives = { λ _ f. f ≡ failure.NoMemory };
+impl From<ParseFault> for Failure {
+    ghost use Rattle.uts.specs.Failures.{of_parse};
 
-    fn from(_: problem_types::NoMemory) -> Self {
-        Failure::NoMemory
+    ghost from_gives = { λ fault f. f ≡ of_parse fault };
+
+    fn from(fault: ParseFault) -> Self {
+        match fault {
+            ParseFault::BadText { line } => Failure::BadText { line },
+            ParseFault::NoMemory => Failure::NoMemory,
+        }
     }
 }
 
 impl Failure {
-    ghost use Rattle.uts.specs.Failures.{status_of, status_after_fault, line_of};
+    ghost use Rattle.uts.specs.Failures.{status_of, status_after_fault};
 
     /// The status of the program.
     pub fn status(self) -> u8
         ensures { result ≡ status_of self }
     {
         match self {
-            Failure::TooLong | Failure::NotYet => 1,
+            Failure::TooLong | Failure::BadText { .. } | Failure::NotYet => 1,
             Failure::Usage => 2,
             Failure::ReadFault => 3,
             Failure::WriteFault => 4,
@@ -77,22 +84,8 @@ impl Failure {
         ensures { result ≡ status_after_fault self }
     {
         match self {
-            Failure::TooLong | Failure::NotYet | Failure::Usage => 4,
+            Failure::TooLong | Failure::BadText { .. } | Failure::NotYet | Failure::Usage => 4,
             _ => self.status(),
-        }
-    }
-
-    /// The line on standard error, with its line feed.
-    pub fn line(self) -> &'static [u8]
-        ensures { result.now ≡ line_of self }
-    {
-        match self {
-            Failure::TooLong => b"refused: too long\n",
-            Failure::NotYet => b"refused: not yet\n",
-            Failure::Usage => b"usage: plain, check, graph, make N, run W, mill N W\n",
-            Failure::ReadFault => b"read fault\n",
-            Failure::WriteFault => b"write fault\n",
-            Failure::NoMemory => b"no memory\n",
         }
     }
 }

@@ -3,17 +3,18 @@
 
 mod failure;
 mod plain;
+mod report;
 #[cfg(test)]
 mod tests;
-mod thin_text;
 mod top;
 
 use failure::Failure;
+use report::report;
 use std::alloc::AllocError;
 use std::process::ExitCode;
 use std::rt::Env;
 use std::{env, io};
-use top::{quiet_top, report};
+use top::quiet_top;
 use uts_io::{StdSink, StdSource};
 
 /// The words of the command line, without the program's name. Words that are not text are no command, as
@@ -40,7 +41,7 @@ fn main(rt: HostRuntime) -> ExitCode {
                 &mut err,
             )
         }
-        Err(_) => report(&mut err, Failure::NoMemory),
+        Err(_) => report(rt.alloc(), &mut err, Failure::NoMemory),
     };
     ExitCode::from(status)
 }

@@ -1,16 +1,16 @@
-ghost use Rattle.std.specs.Prelude.{◌≡◌, ◌⊎◌, ◌≤◌, ◌^◌, [], IfSome, IfOk, IfErr, OnOk, IsErrOf, Some, length};
+ghost use Rattle.std.specs.Prelude.{◌≡◌, ◌≤◌, ◌^◌, [], IfSome, IfOk, IfErr, OnOk, IsErrOf, Some, length};
 ghost use Rattle.uts_io.specs.Streams.{Rose, grown, GrewByPrefix, IsAtEnd};
 ghost use Rattle.problem_types.specs.Dump.{dump_text};
 ghost use Rattle.problem_types.specs.declared.problem.Problem.{Problem};
-ghost use Rattle.uts.specs.Answer.{IsTooLong, IsNotYet, IsRefused};
 ghost use Rattle.problem_types.specs.Thin.{IsThinProblem};
+ghost use Rattle.problem_file.specs.Grammar.{Spells};
+ghost use Rattle.uts.specs.Answer.{IsRefused};
 ghost use Rattle.uts.specs.Failures.{IsReason, IsEarly};
-ghost use Rattle.uts.specs.ThinText.{Spells};
 
 use crate::failure::Failure;
-use crate::thin_text::read_thin;
 use plain_engine::run_plain;
-use problem_types::Problem;
+use problem_file::{no_problem_with_a_bad_line, one_problem, parse};
+use problem_types::{Problem, is_thin};
 use std::alloc::Global;
 use uts_io::{Sink, Source, read_all};
 
@@ -20,13 +20,15 @@ const MOST_BYTES: usize = 1_048_576;
 /// The problem that a text spells, where it is one that is run yet.
 fn problem_of(alloc: Global, text: &[u8]) -> Result<Problem, Failure>
     requires { length text.now ≤ 2 ^ 20 }
-    ensures ok { IfOk result (λ p. Spells text.now p) }
-    ensures not_yet { IsErrOf result Failure.NotYet → IsNotYet text.now }
-    ensures others { IfErr result (λ f. (f ≡ Failure.NotYet) ⊎ (f ≡ Failure.NoMemory)) }
+    ensures spelled { IfOk result (λ p. Spells text.now p) }
+    ensures thin { IfOk result IsThinProblem }
+    ensures reason { IfErr result (IsReason (Some text.now) ⊥ ⊥) }
 {
-    match read_thin(alloc, text)? {
-        Some(thin) => Ok(thin.problem(alloc)?),
-        None => Err(Failure::NotYet),
+    let problem = parse(alloc, text)?;
+    if is_thin(&problem) {
+        Ok(problem)
+    } else {
+        Err(Failure::NotYet)
     }
 }
 
@@ -46,7 +48,7 @@ fn read_problem<R: Source>(alloc: Global, source: &mut R) -> Result<Problem, Fai
 pub fn plain<R: Source, O: Sink>(alloc: Global, source: &mut R, out: &mut O) -> Result<(), Failure>
     ensures ended { OnOk result (IsAtEnd (R.left source.new)) }
     ensures dumped { OnOk result (IfSome (R.left source.old) (λ text. (length text ≤ 2 ^ 20) × ((p : Problem) × Spells text p
-        × (O.taken out.new ≡ grown O.after (O.taken out.old) (dump_text p []))))) }
+        × IsThinProblem p × (O.taken out.new ≡ grown O.after (O.taken out.old) (dump_text p []))))) }
     ensures reason { IfErr result (IsReason (R.left source.old) (Rose (R.faults source.old) (R.faults source.new))
         (Rose (O.faults out.old) (O.faults out.new))) }
     ensures unrefused { IsErrOf result Failure.WriteFault → IfSome (R.left source.old) (λ text. IsRefused text → ⊥) }
@@ -57,6 +59,8 @@ pub fn plain<R: Source, O: Sink>(alloc: Global, source: &mut R, out: &mut O) -> 
     ensures source_never_falls { R.faults source.old ≤ R.faults source.new }
     ensures out_never_falls { O.faults out.old ≤ O.faults out.new }
 {
+    one_problem();
+    no_problem_with_a_bad_line();
     let problem = read_problem(alloc, source)?;
     run_plain(alloc, &problem, out)?;
     Ok(())

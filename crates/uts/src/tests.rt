@@ -13,6 +13,10 @@ const GROWING_DUMP: &str =
 const TWO_PATCHES: &str =
     "problem 1\nsteps 2\ndump 1\nghost 1\nmaterials 1\nlevel ratio 1\nbox 0 0 0 4 1 1\npatch 0 0 0 2 1 1\npatch 2 0 0 4 1 1\nvar u cell outside 0\ninit\ntask start levels 0 materials 0\ncomputes u = x * 10\ntimestep\ntask shift levels 0 materials 0\nrequires old u cells 1\ncomputes u = old.u[-1,0,0] + old.u[1,0,0]\nkeep u\nend\n";
 
+// The lines of that problem up to its last kernel.
+const CUT_SHORT: &str =
+    "problem 1\nsteps 2\ndump 1\nghost 1\nmaterials 1\nlevel ratio 1\nbox 0 0 0 4 1 1\npatch 0 0 0 2 1 1\npatch 2 0 0 4 1 1\nvar u cell outside 0\ninit\ntask start levels 0 materials 0\ncomputes u = x * 10\ntimestep\ntask shift levels 0 materials 0\nrequires old u cells 1\n";
+
 /// The calls of the source and of the two sinks that fail.
 #[derive(Clone, Copy)]
 struct Faults<'a> {
@@ -73,14 +77,39 @@ fn dump_of_a_growing_sum(rt: HostRuntime) -> Result<(), Fail> {
 }
 
 #[test]
+fn a_thin_text_may_be_laid_out_otherwise(rt: HostRuntime) -> Result<(), Fail> {
+    let alloc = rt.alloc();
+    let headed = GROWING.replace(alloc, "problem 1\n", "# two steps\n\n\tproblem\t1\n")?;
+    let loose = headed
+        .as_str()
+        .replace(alloc, "steps 2\n", "steps  2  # not many\n \t\n")?;
+    let answer = call(alloc, "plain", loose.as_bytes(), &CALM)?;
+    assert_eq!(rt; answer.status, 0);
+    assert_eq!(rt; answer.out.as_slice(), GROWING_DUMP.as_bytes());
+    assert_eq!(rt; answer.err.len(), 0);
+    Ok(())
+}
+
+#[test]
+fn a_negative_zero_is_zero(rt: HostRuntime) -> Result<(), Fail> {
+    let alloc = rt.alloc();
+    let text = GROWING.replace(alloc, "outside 5", "outside -0")?;
+    let answer = call(alloc, "plain", text.as_bytes(), &CALM)?;
+    assert_eq!(rt; answer.status, 0);
+    assert!(rt; answer.out.ends_with(b"\n4 6 6 4\nend\n"));
+    Ok(())
+}
+
+#[test]
 fn other_texts_are_refused(rt: HostRuntime) -> Result<(), Fail> {
     let alloc = rt.alloc();
     let longest = vec![in alloc; b' '; 1_048_576]?;
     let longer = vec![in alloc; b' '; 1_048_577]?;
     for (text, line) in [
-        (b"".as_slice(), "refused: not yet\n"),
+        (b"".as_slice(), "refused: bad text, line 1\n"),
         (TWO_PATCHES.as_bytes(), "refused: not yet\n"),
-        (longest.as_slice(), "refused: not yet\n"),
+        (CUT_SHORT.as_bytes(), "refused: bad text, line 17\n"),
+        (longest.as_slice(), "refused: bad text, line 2\n"),
         (longer.as_slice(), "refused: too long\n"),
     ] {
         let answer = call(alloc, "plain", text, &CALM)?;

@@ -1,12 +1,13 @@
 ghost use Rattle.std.specs.Prelude.{◌≡◌, ◌⊎◌, ◌≤◌, ◌↔◌, ℕ, List, [], IsTrue, IfSome, codes};
 ghost use Rattle.uts_io.specs.Streams.{Rose, grown, GrewByPrefix, IsAtEnd};
 ghost use Rattle.uts.specs.Answer.{IsPlain, Answers, ErrorLine};
-ghost use Rattle.uts.specs.Failures.{IsTold};
 
 use crate::failure::Failure;
 use crate::plain::plain;
+use crate::report::report;
+use problem_file::{no_problem_with_a_bad_line, one_problem};
 use std::alloc::Global;
-use uts_io::{Sink, Source, write_all};
+use uts_io::{Sink, Source};
 
 fn says_plain(word: &str) -> bool
     ensures { IsTrue result ↔ (word.now ≡ codes "plain") }
@@ -21,17 +22,6 @@ fn is_plain(words: &[String]) -> bool
     match words.first() {
         Some(word) => words.len() == 1 && says_plain(word.as_str()),
         None => false,
-    }
-}
-
-/// Tells a failure on standard error, and gives the status of the program.
-pub fn report<E: Sink>(err: &mut E, failure: Failure) -> u8
-    ensures told { IsTold failure E.after (E.taken err.old) (E.taken err.new) (E.faults err.old) (E.faults err.new) result }
-    ensures never_falls { E.faults err.old ≤ E.faults err.new }
-{
-    match write_all(err, failure.line()) {
-        Ok(()) => failure.status(),
-        Err(_) => failure.status_after_fault(),
     }
 }
 
@@ -81,11 +71,13 @@ pub fn quiet_top<R: Source, O: Sink, E: Sink>(
         → (Rose (R.faults source.old) (R.faults source.new) → ⊥) → (Rose (E.faults err.old) (E.faults err.new) → ⊥)
         → (result ≡ 1) ⊎ (result ≡ 5)) }
 {
+    one_problem();
+    no_problem_with_a_bad_line();
     if !is_plain(words) {
-        return report(err, Failure::Usage);
+        return report(alloc, err, Failure::Usage);
     }
     match plain(alloc, source, out) {
         Ok(()) => 0,
-        Err(failure) => report(err, failure),
+        Err(failure) => report(alloc, err, failure),
     }
 }

@@ -1,6 +1,6 @@
 use Rattle.std.proofs.Common.{◌<◌, ◌^◌, rules}
 use Rattle.std.specs.Prelude.{IfSome}
-use Rattle.kernel_parse.proofs.Numbers.{number_read}
+use Rattle.kernel_parse.specs.Numbers.{number_read}
 use Rattle.kernel_parse.proofs.lexeme.number_of.Goals as goal
 
 pub returns-in-Number : goal.returns-in-Number

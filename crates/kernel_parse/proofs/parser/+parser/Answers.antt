@@ -5,7 +5,7 @@ use Rattle.kernel_parse.specs.Reading.{parsed, sum_at, product_at, unary_at, pri
 use Rattle.kernel_parse.specs.Source.{lexemes}
 use Rattle.kernel_parse.specs.declared.lexeme.Operators.TheVariants.{Term, Factor}
 use Rattle.kernel_parse.proofs.Chains.{ends, runs_out, fails_at_operand, fails_at_limits, goes_on, expression_at_inner}
-use Rattle.kernel_parse.proofs.Sources.{Extends_trans}
+use Rattle.kernel_parse.specs.SourceLaws.{Extends_trans}
 use Rattle.kernel_parse.proofs.parser.+parser.Goals as goal
 
 pub expression-returns-in-Some-clause-read : goal.expression-returns-in-Some-clause-read

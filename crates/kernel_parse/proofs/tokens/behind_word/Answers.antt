@@ -1,4 +1,4 @@
-use Rattle.kernel_parse.proofs.Sources.{IsBehind_first}
+use Rattle.kernel_parse.specs.SourceLaws.{IsBehind_first}
 use Rattle.kernel_parse.proofs.tokens.behind_word.Goals as goal
 
 pub returns-then-is_word-clause-rest : goal.returns-then-is_word-clause-rest

@@ -1,4 +1,4 @@
-use Rattle.kernel_parse.proofs.Sources.{IsBehind_first}
+use Rattle.kernel_parse.specs.SourceLaws.{IsBehind_first}
 use Rattle.kernel_parse.proofs.tokens.split_store.Goals as goal
 
 pub returns-clause-rest : goal.returns-clause-rest

@@ -13,7 +13,7 @@ abbrev pub invariant-loop-step : goal.invariant-loop-step
 invariant-loop-step g l = record {
   full : l.parts.x * (l.parts.y * l.parts.z) ≡ length l.numbers.items;
   never_falls : g.O.Sink.faults l.fn.sink ≤ g.O.Sink.faults l.sink;
-  written : (t : Thin) → IsThin t → ArePartsOf l.parts t →
-      g.O.Sink.taken l.sink ≡ grown g.O.Sink.after (g.O.Sink.taken l.fn.sink) (joined (step_text (thin_problem t)) l.step);
-  numbers : (t : Thin) → IsThin t → ArePartsOf l.parts t → AreBefore t l.parts l.step l.numbers.items;
+  written : (t : Thin) (line_of : ℕ → ℕ) → IsThin t → ArePartsOf l.parts t →
+      g.O.Sink.taken l.sink ≡ grown g.O.Sink.after (g.O.Sink.taken l.fn.sink) (joined (step_text (thin_problem t line_of)) l.step);
+  numbers : (t : Thin) (line_of : ℕ → ℕ) → IsThin t → ArePartsOf l.parts t → AreBefore line_of t l.parts l.step l.numbers.items;
 }

@@ -1,24 +1,24 @@
 use Rattle.std.proofs.Common.{rules, ap, Err}
 use Rattle.uts.specs.Answer.{IsPlain, usage_line}
 use Rattle.uts.specs.declared.failure.Failure.TheVariants.{Usage}
-use Rattle.uts.proofs.Statuses.{error_line, told_whole, told_part, nothing_told, nothing_told_part, done_with, prefix_of_answer, completed_with, completed_refusal_with, refused_with, done_refusal}
+use Rattle.uts.proofs.Statuses.{error_line, told_whole, told_part, nothing_told, nothing_told_part, of_reported, done_with, prefix_of_answer, completed_with, completed_refusal_with, refused_with, done_refusal, of_usage}
 use Rattle.uts.proofs.top.quiet_top.Goals as goal
 
 pub returns-then-not-is_plain-clause-told : goal.returns-then-not-is_plain-clause-told
-returns-then-not-is_plain-clause-told g c = told_whole _ Usage _ _ _ _ _ _ usage_line c.report.ensures.told
+returns-then-not-is_plain-clause-told g c = of_usage _ _ _ _ _ _ c.report.ensures.told (λ told. told_whole _ Usage _ _ _ _ _ _ usage_line told)
 
 pub returns-then-not-is_plain-clause-told_in_part : goal.returns-then-not-is_plain-clause-told_in_part
-returns-then-not-is_plain-clause-told_in_part g c = told_part _ Usage _ _ _ _ _ _ usage_line c.report.ensures.told
+returns-then-not-is_plain-clause-told_in_part g c = of_usage _ _ _ _ _ _ c.report.ensures.told (λ told. told_part _ Usage _ _ _ _ _ _ usage_line told)
 
 pub returns-in-Ok-clause-done : goal.returns-in-Ok-clause-done
 returns-in-Ok-clause-done g c = λ status.
     let plain : IsPlain c.args.words.now = search rules in
-    done_with c.args.words.now plain _ _ _ _ c.in-Ok.ensures.dumped
+    done_with c.one_problem.ensures c.no_problem_with_a_bad_line.ensures c.args.words.now plain _ _ _ _ c.in-Ok.ensures.dumped
 
 pub returns-in-Ok-clause-prefix : goal.returns-in-Ok-clause-prefix
 returns-in-Ok-clause-prefix g c =
     let plain : IsPlain c.args.words.now = search rules in
-    prefix_of_answer c.args.words.now plain _ _ g.met.O.Sink.after_none _ _ c.plain.ensures.refused c.plain.ensures.prefix
+    prefix_of_answer c.one_problem.ensures c.no_problem_with_a_bad_line.ensures c.args.words.now plain _ _ g.met.O.Sink.after_none _ _ c.plain.ensures.refused c.plain.ensures.prefix
 
 pub returns-in-Ok-clause-told : goal.returns-in-Ok-clause-told
 returns-in-Ok-clause-told g c = λ why. nothing_told _ _ g.met.E.Sink.after_none _
@@ -29,33 +29,38 @@ returns-in-Ok-clause-told_in_part g c = nothing_told_part _ _ g.met.E.Sink.after
 pub returns-in-Ok-clause-completed_refusal : goal.returns-in-Ok-clause-completed_refusal
 returns-in-Ok-clause-completed_refusal g c =
     let plain : IsPlain c.args.words.now = search rules in
-    done_refusal c.args.words.now plain _ _ _ _ _ c.in-Ok.ensures.dumped
+    done_refusal c.one_problem.ensures c.no_problem_with_a_bad_line.ensures c.args.words.now plain _ _ _ _ _ c.in-Ok.ensures.dumped
 
 pub returns-in-Err-clause-refused : goal.returns-in-Err-clause-refused
 returns-in-Err-clause-refused g c =
     let plain : IsPlain c.args.words.now = search rules in
-    refused_with c.args.words.now plain _ _ _ _ _ _ _ _ _ c.in-Err.failure c.in-Err.ensures.reason c.report-in-Err.ensures.told
+    of_reported _ _ _ c.in-Err.failure _ _ _ _ _ _ c.in-Err.ensures.reason c.report-in-Err.ensures.told
+    (λ f reason same told. refused_with c.one_problem.ensures c.no_problem_with_a_bad_line.ensures c.args.words.now plain _ _ _ _ _ _ _ _ _ f reason told)
 
 pub returns-in-Err-clause-prefix : goal.returns-in-Err-clause-prefix
 returns-in-Err-clause-prefix g c =
     let plain : IsPlain c.args.words.now = search rules in
-    prefix_of_answer c.args.words.now plain _ _ g.met.O.Sink.after_none _ _ c.plain.ensures.refused c.plain.ensures.prefix
+    prefix_of_answer c.one_problem.ensures c.no_problem_with_a_bad_line.ensures c.args.words.now plain _ _ g.met.O.Sink.after_none _ _ c.plain.ensures.refused c.plain.ensures.prefix
 
 pub returns-in-Err-clause-told : goal.returns-in-Err-clause-told
 returns-in-Err-clause-told g c =
-    told_whole _ c.in-Err.failure _ _ _ _ _ _ (error_line _ _ _ c.in-Err.failure c.in-Err.ensures.reason) c.report-in-Err.ensures.told
+    of_reported _ _ _ c.in-Err.failure _ _ _ _ _ _ c.in-Err.ensures.reason c.report-in-Err.ensures.told
+    (λ f reason same told. told_whole _ f _ _ _ _ _ _ (error_line _ _ _ f reason) told)
 
 pub returns-in-Err-clause-told_in_part : goal.returns-in-Err-clause-told_in_part
 returns-in-Err-clause-told_in_part g c =
-    told_part _ c.in-Err.failure _ _ _ _ _ _ (error_line _ _ _ c.in-Err.failure c.in-Err.ensures.reason) c.report-in-Err.ensures.told
+    of_reported _ _ _ c.in-Err.failure _ _ _ _ _ _ c.in-Err.ensures.reason c.report-in-Err.ensures.told
+    (λ f reason same told. told_part _ f _ _ _ _ _ _ (error_line _ _ _ f reason) told)
 
 pub returns-in-Err-clause-completed : goal.returns-in-Err-clause-completed
 returns-in-Err-clause-completed g c =
     let plain : IsPlain c.args.words.now = search rules in
-    completed_with c.args.words.now plain _ _ _ _ _ _ _ _ _ c.in-Err.failure c.in-Err.ensures.reason c.report-in-Err.ensures.told
+    of_reported _ _ _ c.in-Err.failure _ _ _ _ _ _ c.in-Err.ensures.reason c.report-in-Err.ensures.told
+    (λ f reason same told. completed_with c.one_problem.ensures c.no_problem_with_a_bad_line.ensures c.args.words.now plain _ _ _ _ _ _ _ _ _ f reason told)
 
 pub returns-in-Err-clause-completed_refusal : goal.returns-in-Err-clause-completed_refusal
 returns-in-Err-clause-completed_refusal g c =
     let plain : IsPlain c.args.words.now = search rules in
-    completed_refusal_with c.args.words.now plain _ _ _ _ _ _ _ _ _ c.in-Err.failure c.in-Err.ensures.reason c.report-in-Err.ensures.told
-    (λ fault. c.in-Err.ensures.unrefused (ap Err fault))
+    of_reported _ _ _ c.in-Err.failure _ _ _ _ _ _ c.in-Err.ensures.reason c.report-in-Err.ensures.told
+    (λ f reason same told. completed_refusal_with c.one_problem.ensures c.no_problem_with_a_bad_line.ensures c.args.words.now plain _ _ _ _ _ _ _ _ _ f reason told
+    (λ fault. c.in-Err.ensures.unrefused (ap Err (same fault))))

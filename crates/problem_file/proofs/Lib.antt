@@ -1,0 +1,6 @@
+pub mod Readback
+pub mod Tails
+pub mod Lines
+pub mod Reached
+pub mod Answered
+pub mod InForm

@@ -1,0 +1,17 @@
+//! Problems from texts: the whole grammar of a problem text, and its first bad line.
+#![tactic(auto)]
+
+mod draft;
+mod fault;
+mod laws;
+mod order;
+mod reading;
+#[cfg(test)]
+mod tests;
+
+pub use fault::ParseFault;
+pub use laws::{
+    no_problem_with_a_bad_line, one_bad_line, one_problem, problems_are_in_form,
+    whole_problems_are_in_order,
+};
+pub use reading::parse;

@@ -1,0 +1,6 @@
+pub mod Lists
+pub mod Found
+pub mod Ends
+pub mod Again
+pub mod Once
+pub mod Forms

@@ -1,0 +1,59 @@
+ghost use Rattle.std.specs.Prelude.{◌≡◌, ◌≤◌, IfOk};
+ghost use Rattle.uts.specs.Failures.{IsTold, IsReported, line_of};
+
+use crate::failure::Failure;
+use std::alloc::Global;
+use uts_io::{Sink, write_all};
+use uts_num::{NoMemory, put_i64};
+
+// The line that tells of a text with this first bad line.
+fn bad_text_line(alloc: Global, bad: u32) -> Result<Vec<u8>, NoMemory>
+    ensures { IfOk result (λ text. text.items ≡ line_of (Failure.BadText bad)) }
+{
+    let mut text = Vec::from_slice(alloc, b"refused: bad text, line ")?;
+    put_i64(&mut text, i64::from(bad))?;
+    text.push(b'\n')?;
+    Ok(text)
+}
+
+// Hands the line of a failure to standard error, and gives the status.
+fn tell<E: Sink>(err: &mut E, failure: Failure, line: &[u8]) -> u8
+    requires { line.now ≡ line_of failure }
+    ensures told { IsTold failure E.after (E.taken err.old) (E.taken err.new) (E.faults err.old) (E.faults err.new) result }
+    ensures never_falls { E.faults err.old ≤ E.faults err.new }
+{
+    match write_all(err, line) {
+        Ok(()) => failure.status(),
+        Err(_) => failure.status_after_fault(),
+    }
+}
+
+fn tell_no_memory<E: Sink>(err: &mut E) -> u8
+    ensures told { IsTold Failure.NoMemory E.after (E.taken err.old) (E.taken err.new) (E.faults err.old) (E.faults err.new) result }
+    ensures never_falls { E.faults err.old ≤ E.faults err.new }
+{
+    tell(err, Failure::NoMemory, b"no memory\n")
+}
+
+/// Tells a failure on standard error, and gives the status of the program.
+pub fn report<E: Sink>(alloc: Global, err: &mut E, failure: Failure) -> u8
+    ensures told { IsReported failure E.after (E.taken err.old) (E.taken err.new) (E.faults err.old) (E.faults err.new) result }
+    ensures never_falls { E.faults err.old ≤ E.faults err.new }
+{
+    match failure {
+        Failure::TooLong => tell(err, failure, b"refused: too long\n"),
+        Failure::BadText { line } => match bad_text_line(alloc, line) {
+            Ok(text) => tell(err, failure, &text),
+            Err(_) => tell_no_memory(err),
+        },
+        Failure::NotYet => tell(err, failure, b"refused: not yet\n"),
+        Failure::Usage => tell(
+            err,
+            failure,
+            b"usage: plain, check, graph, make N, run W, mill N W\n",
+        ),
+        Failure::ReadFault => tell(err, failure, b"read fault\n"),
+        Failure::WriteFault => tell(err, failure, b"write fault\n"),
+        Failure::NoMemory => tell_no_memory(err),
+    }
+}
