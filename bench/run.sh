@@ -1,7 +1,8 @@
 #!/usr/bin/env bash
 # Times `uts plain` beside a plain Rust program that does the same work, in one run on one machine: 64 x 64 x 64
 # cells, seven reads a cell, 50 steps, the dump thrown away. Prints the best of three times of each, their ratio and
-# the most memory that each took, and how long a text of 1,048,576 bytes that is no problem takes to be refused.
+# the most memory that each took, and how long texts of about a million bytes take: one of many tasks, which is read whole and
+# told to be not yet run (and printed, where the program reprint is built), and one that is no problem, which is refused.
 # Before that it compares what both write, on a small problem and on the examples. Needs rustc.
 set -eu
 
@@ -85,8 +86,36 @@ if [ -x /usr/bin/time ]; then
     echo "  yardstick  $(memory "$room/large" "$yardstick") KiB"
 fi
 
+# The time and the most memory of a text that is answered with status 1, and what was said of it.
+answered() {
+    local status=0 took
+    took=$(seconds "$2" "$program" plain) || status=$?
+    [ "$status" = 1 ] || { echo "$1 ended with status $status"; exit 1; }
+    echo "$1, $(cat -- "$room/said"): $took s"
+    if [ -x /usr/bin/time ]; then
+        /usr/bin/time -f %M -o "$room/memory" "$program" plain <"$2" >/dev/null 2>&1 || true
+        echo "  most memory  $(tail -n 1 -- "$room/memory") KiB"
+    fi
+}
+
+# A problem of many tasks, each with a name of its own and a kernel of several reads.
+many_tasks() {
+    problem 1 4 | sed '/^keep u$/,$d'
+    local task=0
+    while [ "$task" -lt 6900 ]; do
+        printf 'task number_%d levels 0 materials 0\nrequires old u cells 1\n' "$task"
+        printf 'computes u = max(old.u[-1,0,0], old.u[1,0,0] * %d) - select(x < %d, old.u[0,0,0], -7)\n' "$task" "$task"
+        task=$((task + 1))
+    done
+    printf 'keep u\nend\n'
+}
+
+many_tasks >"$room/many"
+answered "a problem of $(wc -c <"$room/many") bytes" "$room/many"
+printer=$top/crates/reprint/out/reprint
+if [ -x "$printer" ]; then
+    echo "read and printed in $(seconds "$room/many" "$printer") s"
+    [ -x /usr/bin/time ] && echo "  most memory  $(memory "$room/many" "$printer") KiB"
+fi
 head -c 1048576 /dev/zero | tr '\0' x >"$room/garbage"
-status=0
-refusing=$(seconds "$room/garbage" "$program" plain) || status=$?
-[ "$status" = 1 ] || { echo "1,048,576 bytes of garbage ended with status $status"; exit 1; }
-echo "1,048,576 bytes of garbage, $(cat -- "$room/said"): $refusing s"
+answered "1,048,576 bytes of garbage" "$room/garbage"

@@ -1,0 +1,148 @@
+-- Names that are known one after another: each is one of those before, or the next one.
+use Rattle.std.proofs.Common.{◌≡◌, ◌≢◌, ℕ, ◌+◌, ◌<◌, ◌≤◌, ◌==◌, Bool, true, false, cond, ◌||◌, nat_lt, List, [], ◌∷◌, ◌++◌, length, take, get_or, Some, None, refl, ap, sym, ◌∙◌, subst, arith}
+use Rattle.std.specs.Prelude.{AllPairs, All}
+use Rattle.std.specs.List.{list_any, position_or_len}
+use Rattle.std.specs.Str.{bytes_eq}
+use Rattle.std.proofs.lemmas.Bool.Decides.{nat_tests}
+use Rattle.std.proofs.lemmas.List.{get_or-take, length-take-le, take_more}
+use Rattle.std.proofs.lemmas.List.Sums.{position_or_len_is}
+use Rattle.std.proofs.lemmas.Slice.Eq.{bytes_eq-Decides}
+use Rattle.uts_lex.specs.Names.{number_of, with_name}
+use Rattle.kernel_parse.specs.Grammar.{Words}
+use Rattle.problem_print.specs.Printed.{name_text}
+use Rattle.problem_printable.specs.Numbering.{known_behind}
+use Rattle.problem_printable.specs.Printable.{IsName}
+
+-- distinct words that may be names
+pub record AreNames (names : Words) : Type 0 where
+  pub words : All IsName names
+  pub distinct : AllPairs ◌≢◌ names
+
+found : (p : List ℕ → Bool) (words : Words) → position_or_len p words < length words → list_any p words ≡ true
+found p [] h = absurd (omega arith)
+found p (word ∷ words) h = by (p word) refl (found p words)
+  where
+    by : (b : Bool) → p word ≡ b → (position_or_len p words < length words → list_any p words ≡ true) → (b || list_any p words) ≡ true
+    by true e more = refl
+    by false e more = more (let h' = rw e at h in omega (arith, h'))
+
+not_found : (p : List ℕ → Bool) (words : Words) → position_or_len p words ≡ length words → list_any p words ≡ false
+not_found p [] h = refl
+not_found p (word ∷ words) h = by (p word) refl (not_found p words)
+  where
+    by : (b : Bool) → p word ≡ b → (position_or_len p words ≡ length words → list_any p words ≡ false) → (b || list_any p words) ≡ false
+    by true e more = absurd (let h' = rw e at h in omega (arith, h'))
+    by false e more = more (let h' = rw e at h in omega (arith, h'))
+
+same_word : (a : List ℕ) → bytes_eq a a ≡ true
+same_word a = (bytes_eq-Decides a a).1 refl
+
+other_word : (a b : List ℕ) → a ≢ b → bytes_eq a b ≡ false
+other_word a b differ = by (bytes_eq a b) refl
+  where
+    by : (r : Bool) → bytes_eq a b ≡ r → r ≡ false
+    by true e = absurd (differ ((bytes_eq-Decides a b).0 e))
+    by false e = refl
+
+module _ (names : Words) (distinct : AllPairs ◌≢◌ names) where
+  -- where a word stands among the first ones
+  known : (k name : ℕ) → name < k → k ≤ length names → number_of (take k names) (get_or names name []) ≡ name
+  known k name below within =
+      let size : length (take k names) ≡ k = length-take-le k names within in
+      let word = get_or names name [] in
+      position_or_len_is (bytes_eq word) (take k names) name [] (omega (arith, size))
+      (λ m before. subst (λ (w : List ℕ). bytes_eq word w ≡ false) (sym (get_or-take k names m [] (omega arith)))
+      (other_word word (get_or names m []) (λ e. distinct m name [] before (omega arith) (sym e))))
+      (λ inside. subst (λ (w : List ℕ). bytes_eq word w ≡ true) (sym (get_or-take k names name [] below)) (same_word word))
+
+  new : (k : ℕ) → k < length names → number_of (take k names) (get_or names k []) ≡ k
+  new k within =
+      let size : length (take k names) ≡ k = length-take-le k names (omega arith) in
+      let word = get_or names k [] in
+      position_or_len_is (bytes_eq word) (take k names) k [] (omega (arith, size))
+      (λ m before. subst (λ (w : List ℕ). bytes_eq word w ≡ false) (sym (get_or-take k names m [] before))
+      (other_word word (get_or names m []) (λ e. distinct m k [] before within (sym e))))
+      (λ inside. absurd (omega (arith, size, inside)))
+
+  -- what is known behind one name, of which so many are known before
+  pub record Named (k j name : ℕ) : Type 0 where
+    pub below : name < j
+    pub rises : k ≤ j
+    pub number : number_of (take k names) (name_text names name) ≡ name
+    pub words : with_name (take k names) (name_text names name) ≡ take j names
+
+  pub named : (k j name : ℕ) → known_behind k (name ∷ []) ≡ Some j → j ≤ length names → Named k j name
+  named k j name e within = by (nat_lt name k) refl e
+    where
+      size : k ≤ length names → length (take k names) ≡ k
+      size h = length-take-le k names h
+
+      by-new : (b : Bool) → (name == k) ≡ b → cond b (known_behind (k + 1) []) None ≡ Some j → Named k j name
+      by-new true is e =
+          let same : name ≡ k = grind (arith, nat_tests, is) in
+          let next : k + 1 ≡ j = cc in
+          let inside : k < length names = omega arith in
+          let place = new k inside in
+          let none = not_found (bytes_eq (get_or names k [])) (take k names) (place ∙ sym (size (omega arith))) in
+          let with : with_name (take k names) (get_or names k []) ≡ take j names = rw none (sym (take_more names k [] inside) ∙ ap (λ (n : ℕ). take n names) next) in
+          record {
+            below = omega arith;
+            rises = omega arith;
+            number = ap (λ (n : ℕ). number_of (take k names) (get_or names n [])) same ∙ place ∙ sym same;
+            words = ap (λ (n : ℕ). with_name (take k names) (get_or names n [])) same ∙ with;
+          }
+      by-new false is e = absurd cc
+
+      by : (b : Bool) → nat_lt name k ≡ b → cond b (known_behind k []) (cond (name == k) (known_behind (k + 1) []) None) ≡ Some j → Named k j name
+      by true is e =
+          let below : name < k = grind (arith, nat_tests, is) in
+          let same : k ≡ j = cc in
+          let inside : k ≤ length names = omega arith in
+          let place = known k name below inside in
+          let some = found (bytes_eq (get_or names name [])) (take k names) (omega (arith, place, size inside)) in
+          record {
+            below = omega arith;
+            rises = omega arith;
+            number = place;
+            words = rw some (ap (λ (n : ℕ). take n names) same);
+          }
+      by false is e = by-new (name == k) refl e
+
+-- ---- several names
+
+-- what is known behind some names and more, by parts
+pub record Between (k j : ℕ) (xs ys : List ℕ) : Type 0 where
+  pub middle : ℕ
+  pub first : known_behind k xs ≡ Some middle
+  pub second : known_behind middle ys ≡ Some j
+
+pub between : (k j : ℕ) (xs ys : List ℕ) → known_behind k (xs ++ ys) ≡ Some j → Between k j xs ys
+between k j [] ys e = record { middle = k; first = refl; second = e }
+between k j (name ∷ xs) ys e = by (nat_lt name k) refl (between k j xs ys) (between (k + 1) j xs ys) e
+  where
+    by-new : (b : Bool) → nat_lt name k ≡ false → (name == k) ≡ b → (known_behind (k + 1) (xs ++ ys) ≡ Some j → Between (k + 1) j xs ys)
+        → cond b (known_behind (k + 1) (xs ++ ys)) None ≡ Some j → Between k j (name ∷ xs) ys
+    by-new true old is more e = let p = more e in record { middle = p.middle; first = rw (old, is) p.first; second = p.second }
+    by-new false old is more e = absurd cc
+
+    by : (b : Bool) → nat_lt name k ≡ b → (known_behind k (xs ++ ys) ≡ Some j → Between k j xs ys)
+        → (known_behind (k + 1) (xs ++ ys) ≡ Some j → Between (k + 1) j xs ys)
+        → cond b (known_behind k (xs ++ ys)) (cond (name == k) (known_behind (k + 1) (xs ++ ys)) None) ≡ Some j → Between k j (name ∷ xs) ys
+    by true is same more e = let p = same e in record { middle = p.middle; first = rw is p.first; second = p.second }
+    by false is same more e = by-new (name == k) is refl more e
+
+pub none_behind : (k j : ℕ) → known_behind k [] ≡ Some j → k ≡ j
+none_behind k j e = cc
+
+pub known_rises : (k j : ℕ) (xs : List ℕ) → known_behind k xs ≡ Some j → k ≤ j
+known_rises k j [] e = let same : k ≡ j = cc in omega arith
+known_rises k j (name ∷ xs) e = by (nat_lt name k) (known_rises k j xs) (known_rises (k + 1) j xs) e
+  where
+    by-new : (b : Bool) → (known_behind (k + 1) xs ≡ Some j → k + 1 ≤ j) → cond b (known_behind (k + 1) xs) None ≡ Some j → k ≤ j
+    by-new true more e = let h = more e in omega arith
+    by-new false more e = absurd cc
+
+    by : (b : Bool) → (known_behind k xs ≡ Some j → k ≤ j) → (known_behind (k + 1) xs ≡ Some j → k + 1 ≤ j)
+        → cond b (known_behind k xs) (cond (name == k) (known_behind (k + 1) xs) None) ≡ Some j → k ≤ j
+    by true same more e = same e
+    by false same more e = by-new (name == k) more e

@@ -1,0 +1,9 @@
+pub mod Phrases
+pub mod Counting
+pub mod Numerals
+pub mod Expressions
+pub mod Pieces
+pub mod Joining
+pub mod Pages
+pub mod Sayings
+pub mod Spelled

@@ -1,0 +1,4 @@
+pub mod Printed
+pub mod Laws
+pub mod Pieces
+pub mod Pages

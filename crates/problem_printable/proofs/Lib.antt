@@ -1,0 +1,17 @@
+pub mod Forms
+pub mod Known
+pub mod Naming
+pub mod Elements
+pub mod Places
+pub mod SpelledNames
+pub mod SpelledNumbers
+pub mod Tokens
+pub mod Statements
+pub mod Ascent
+pub mod Law
+pub mod Steps
+pub mod Limits
+pub mod Fitting
+pub mod Distinct
+pub mod InOrder
+pub mod Sayable

@@ -1,0 +1,5 @@
+pub mod Numbering
+pub mod Printable
+pub mod Laws
+pub mod Progress
+pub mod Parts
