@@ -1,7 +1,6 @@
 -- The number of a kernel at a cell.
-use Rattle.std.proofs.Common.{◌≡◌, ℤ, pos, refl, ap, ◌∙◌}
+use Rattle.std.proofs.Common.{◌≡◌, ℤ, ap, ◌∙◌}
 use Rattle.kernel_ast.specs.Value.{value_of}
-use Rattle.plain_engine.specs.Stored.{cells_of, thin_environment}
 use Rattle.plain_engine.specs.Sweep.{number_at}
 use Rattle.plain_engine.specs.Places.{environment_at}
 use Rattle.plain_engine.specs.declared.sweep.Sweep.{Sweep}

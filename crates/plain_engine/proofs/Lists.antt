@@ -1,12 +1,12 @@
 -- Lists over the numbers below a bound: equal items, items by place, and the words of spans.
-use Rattle.std.proofs.Common.{◌≡◌, ◌∙◌, ◌≤◌, ◌<◌, ◌+◌, ◌-◌, ◌*◌, ◌⊎◌, inl, inr, ℕ, zero, suc, ℤ, pos, List, [], ◌∷◌, ◌++◌, map, length, slice_index_or, ap, sym, refl, arith, append-nil, length-append, add-one, add-zero}
+use Rattle.std.proofs.Common.{◌≡◌, ◌∙◌, ◌≤◌, ◌<◌, ◌+◌, ◌-◌, ◌*◌, ◌⊎◌, inl, inr, ℕ, zero, suc, ℤ, pos, List, [], ◌∷◌, ◌++◌, map, length, slice_index_or, ap, sym, refl, arith, append-nil, length-append}
 use Rattle.std.proofs.Math.Nat.{eq-or-lt_of_le, mul-suc, mul-le-mul_left}
 use Rattle.std.specs.List.{flat_map}
 use Rattle.std.proofs.lemmas.Grind.{flat_map-append}
 use Rattle.std.proofs.lemmas.List.{map-append, get_or-append_right}
 use Rattle.std.proofs.Math.ListN.{get_or-append}
 use Rattle.kernel_ast.specs.Index.{Index}
-use Rattle.problem_types.specs.Index.{counted, from_to, by_rows, row_of, numbers_over}
+use Rattle.problem_types.specs.Index.{counted, from_to, by_rows, row_of}
 use Rattle.problem_types.specs.Dump.{row_line}
 use Rattle.plain_engine.specs.Stored.{cells_of}
 use Rattle.plain_engine.specs.Below.{listed, joined}

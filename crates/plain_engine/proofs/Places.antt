@@ -1,5 +1,5 @@
 -- What is stored at a cell, and outside.
-use Rattle.std.proofs.Common.{◌≡◌, ℕ, ℤ, pos, ◌+◌, ◌*◌, ◌<◌, ◌≤◌, List, Bool, false, slice_index_or, arith, Option, None, Some, MatchOption, ◌⊎◌, inl, inr, negsuc, true, nat_lt, refl}
+use Rattle.std.proofs.Common.{◌≡◌, ℕ, ℤ, pos, ◌+◌, ◌*◌, ◌<◌, List, Bool, false, slice_index_or, arith, Option, None, Some, MatchOption, ◌⊎◌, inl, inr, negsuc, true, nat_lt, refl}
 use Rattle.kernel_ast.specs.Index.{Index}
 use Rattle.problem_types.specs.Index.{is_between, is_inside}
 use Rattle.plain_engine.specs.Stored.{cells_of, stored}

@@ -1,24 +1,23 @@
 -- A step of the engine, and the whole dump, as the definitions have them.
-use Rattle.std.proofs.Common.{◌≡◌, ◌∙◌, ◌+◌, ◌-◌, ◌%◌, ◌<◌, ℕ, zero, suc, ℤ, Bool, true, false, cond, List, [], ◌∷◌, ◌++◌, ◌==◌, ◌||◌, if◌then◌else◌, ap, sym, refl, arith, append-nil, append_assoc, codes, slice_index}
+use Rattle.std.proofs.Common.{◌≡◌, ◌∙◌, ◌+◌, ◌%◌, ℕ, zero, suc, ℤ, true, List, [], ◌++◌, ◌==◌, ◌||◌, if◌then◌else◌, ap, sym, refl, arith, append-nil, append_assoc, codes}
 use Rattle.std.proofs.Math.Nat.{mod-one}
 use Rattle.std.specs.List.{flat_map}
 use Rattle.kernel_ast.specs.Index.{Index}
 use Rattle.problem_types.specs.Index.{counted}
-use Rattle.kernel_ast.specs.Value.{value_of}
 use Rattle.problem_types.specs.Lists.{is_dumped}
 use Rattle.problem_types.specs.Dump.{line, dump_text, step_text, step_line, field_line}
 use Rattle.problem_types.specs.Thin.{thin_problem}
 use Rattle.problem_types.specs.declared.thin.Thin.{Thin}
-use Rattle.plain_engine.specs.Stored.{cells_of, thin_environment}
+use Rattle.plain_engine.specs.Stored.{cells_of}
 use Rattle.plain_engine.specs.Below.{joined}
-use Rattle.plain_engine.specs.Cells.{cell, numbers_of_cells, lines_of_cells}
+use Rattle.plain_engine.specs.Cells.{cell, numbers_of_cells}
 use Rattle.plain_engine.specs.Sweep.{number_at, all_numbers, sweep_text}
 use Rattle.plain_engine.specs.Parts.{ArePartsOf, next_number, next_text}
 use Rattle.plain_engine.specs.declared.field.Field.{Field}
 use Rattle.plain_engine.specs.declared.parts.Parts.{Parts}
 use Rattle.plain_engine.specs.declared.sweep.Sweep.{Sweep}
 use Rattle.plain_engine.proofs.Lists.{AgreeAtCells, joined-ext, numbers_of_cells-ext, lines_of_cells-ext, flat_map-counted}
-use Rattle.plain_engine.proofs.Thin.{field_of, cells_of_thin, step_text-thin, first_numbers, later_numbers}
+use Rattle.plain_engine.proofs.Thin.{field_of, step_text-thin, first_numbers, later_numbers}
 
 -- the sweep of a step over these numbers
 pub record IsSweepOf (s : Sweep) (parts : Parts) (n : ℕ) (before : List ℤ) : Type 0 where

@@ -1,23 +1,23 @@
 -- What a thin problem means, in terms of its parts.
-use Rattle.std.proofs.Common.{◌≡◌, ◌∙◌, ◌⊎◌, inl, inr, ◌<◌, ◌+◌, ◌*◌, ℕ, zero, suc, ℤ, pos, negsuc, Bool, true, false, cond, List, [], ◌∷◌, ◌++◌, fold, ◌==◌, if◌then◌else◌, slice_index_or, slice_index, ap, sym, refl, arith, append-nil, append_assoc, codes}
+use Rattle.std.proofs.Common.{◌≡◌, ◌∙◌, ◌⊎◌, inl, inr, ◌<◌, ◌+◌, ◌*◌, ℕ, zero, suc, ℤ, pos, true, false, List, [], ◌∷◌, ◌++◌, ◌==◌, if◌then◌else◌, slice_index, ap, sym, refl, arith, append-nil, append_assoc, codes}
 use Rattle.kernel_ast.specs.Index.{Index}
-use Rattle.problem_types.specs.Index.{Span, is_between, is_inside, moved, offset_of, by_rows, row_of}
+use Rattle.problem_types.specs.Index.{Span, is_between, is_inside, moved, offset_of}
 use Rattle.kernel_ast.specs.Value.{Environment, value_of, result_of, value_of-Literal, value_of-Read, value_of-Binary}
-use Rattle.problem_types.specs.WholeField.{State, unset, nothing, environment, after_task, end_of_step}
-use Rattle.problem_types.specs.Dump.{step_text, step_line, field_line, field_text, row_line}
+use Rattle.problem_types.specs.WholeField.{unset, nothing, environment, after_task, end_of_step}
+use Rattle.problem_types.specs.Dump.{step_text, step_line, field_line, field_text}
 use Rattle.problem_types.specs.Thin.{thin_problem, term_expression, plus_terms, sum_expression}
 use Rattle.kernel_ast.specs.declared.expression.Expr.{Expr}
 use Rattle.kernel_ast.specs.declared.expression.Store.TheVariants.{Old as OldStore}
 use Rattle.kernel_ast.specs.declared.expression.How.TheVariants.{Same}
 use Rattle.kernel_ast.specs.declared.expression.Read.{Read}
 use Rattle.kernel_ast.specs.declared.expression.Op.TheVariants.{Add}
-use Rattle.kernel_ast.specs.declared.expression.Expr.TheVariants.{Literal as Constant, Binary}
+use Rattle.kernel_ast.specs.declared.expression.Expr.TheVariants.{Binary}
 use Rattle.problem_types.specs.declared.thin.Thin.{Thin}
 use Rattle.problem_types.specs.declared.thin.Term.{Term}
 use Rattle.problem_types.specs.declared.thin.Term.TheVariants.{Literal, Old}
 use Rattle.plain_engine.specs.Stored.{cells_of, stored, thin_environment}
 use Rattle.plain_engine.specs.Cells.{cell, numbers_of_cells, lines_of_cells}
-use Rattle.plain_engine.specs.Parts.{ArePartsOf, next_number, next_text}
+use Rattle.plain_engine.specs.Parts.{ArePartsOf, next_number}
 use Rattle.plain_engine.specs.declared.parts.Parts.{Parts}
 use Rattle.plain_engine.proofs.Lists.{AgreeAtCells, numbers_of_cells-at, lines-cells}
 use Rattle.plain_engine.proofs.Places.{stored_inside, stored_beside_x, stored_beside_y, stored_beside_z, between_or_not, beside_x, beside_y, beside_z, cell_inside}

@@ -1,12 +1,12 @@
 -- Writing in several pieces: a loop that writes one piece a turn.
-use Rattle.std.proofs.Common.{◌≡◌, ◌∙◌, ◌≤◌, ◌<◌, ◌+◌, ◌-◌, ℕ, zero, suc, List, [], ◌∷◌, ◌++◌, Option, Result, Ok, Err, IsErrOf, OnOk, ap, sym, refl, arith, append_assoc, append-nil, add-one, add-zero, add-suc, subst}
+use Rattle.std.proofs.Common.{◌≡◌, ◌∙◌, ◌≤◌, ◌<◌, ◌+◌, ◌-◌, ℕ, zero, suc, List, [], ◌++◌, Option, Result, Ok, Err, ap, sym, arith, append_assoc, append-nil, add-zero, add-suc}
 use Rattle.std.proofs.lemmas.Result.{on_ok_weaker}
-use Rattle.uts_io.specs.Streams.{Rose, Rose-earlier, grown, GrewByPrefix, NoneChangeNothing, PiecesJoin, grew_both, grown-nil, prefix_of_all, prefix_of_more, prefix_after}
+use Rattle.uts_io.specs.Streams.{Rose-earlier, grown, GrewByPrefix, NoneChangeNothing, PiecesJoin, grew_both, grown-nil, prefix_of_all, prefix_of_more, prefix_after}
 use Rattle.plain_engine.specs.Writing.{Writes}
 use Rattle.plain_engine.specs.Below.{joined}
 use Rattle.plain_engine.proofs.Rows.{joined-more}
 use Rattle.plain_engine.specs.declared.fault.RunFault.{RunFault}
-use Rattle.plain_engine.specs.declared.fault.RunFault.TheVariants.{SinkFault, NoMemory}
+use Rattle.plain_engine.specs.declared.fault.RunFault.TheVariants.{SinkFault}
 
 -- lists for more numbers begin with those for fewer
 joined_further : {A : Type 0} (f : ℕ → List A) (k m : ℕ) → (rest : List A) × (joined f (k + m) ≡ joined f k ++ rest)

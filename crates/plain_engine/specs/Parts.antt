@@ -4,7 +4,6 @@ use Rattle.kernel_ast.specs.Index.{Index}
 use Rattle.problem_types.specs.Dump.{step_line, field_line}
 use Rattle.kernel_ast.specs.Value.{value_of}
 use Rattle.problem_types.specs.Thin.{sum_expression}
-use Rattle.kernel_ast.specs.declared.expression.Expr.{Expr}
 use Rattle.kernel_ast.specs.declared.expression.Expr.TheVariants.{Literal as Constant}
 use Rattle.problem_types.specs.declared.thin.Thin.{Thin}
 use Rattle.plain_engine.specs.Stored.{cells_of, thin_environment}

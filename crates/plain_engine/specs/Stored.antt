@@ -1,5 +1,5 @@
 -- A field over a box of cells as a list of numbers.
-use Rattle.std.specs.Prelude.{ℕ, ℤ, pos, ◌+◌, ◌*◌, ◌≡◌, List, length, if◌then◌else◌, slice_index_or, unsigned_abs}
+use Rattle.std.specs.Prelude.{ℕ, ℤ, pos, ◌+◌, ◌*◌, List, if◌then◌else◌, slice_index_or, unsigned_abs}
 use Rattle.kernel_ast.specs.Index.{Index}
 use Rattle.problem_types.specs.Index.{Span, moved, offset_of, is_inside}
 use Rattle.kernel_ast.specs.Value.{Environment}

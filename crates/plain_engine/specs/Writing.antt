@@ -1,8 +1,8 @@
 -- What a call that writes some bytes did to its sink.
-use Rattle.std.specs.Prelude.{◌≡◌, ◌≤◌, ℕ, List, [], ◌++◌, Option, Result, Ok, Err, OnOk, IsErrOf}
+use Rattle.std.specs.Prelude.{◌≡◌, ◌≤◌, ℕ, List, Option, Result, OnOk, IsErrOf}
 use Rattle.uts_io.specs.Streams.{Rose, grown, GrewByPrefix}
 use Rattle.plain_engine.specs.declared.fault.RunFault.{RunFault}
-use Rattle.plain_engine.specs.declared.fault.RunFault.TheVariants.{SinkFault, NoMemory}
+use Rattle.plain_engine.specs.declared.fault.RunFault.TheVariants.{SinkFault}
 
 -- At Ok all the bytes were taken. Else a prefix was, and the sink's fault is told only where the sink's count of
 -- faults rose.

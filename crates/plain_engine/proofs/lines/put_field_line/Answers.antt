@@ -1,5 +1,4 @@
 use Rattle.std.proofs.Common.{rules, append_assoc}
-use Rattle.std.proofs.lemmas.Grind.{common_steps}
 use Rattle.problem_types.specs.Dump.{field_line}
 use Rattle.plain_engine.proofs.lines.put_field_line.Goals as goal
 

@@ -1,4 +1,4 @@
-use Rattle.std.proofs.Common.{◌∙◌, ap, refl, w64, FitsSigned, rules}
+use Rattle.std.proofs.Common.{◌∙◌, refl, w64, FitsSigned, rules}
 use Rattle.std.proofs.lemmas.Int.{to_z-of_z}
 use Rattle.std.proofs.lemmas.Result.{IfOk-weaker}
 use Rattle.plain_engine.proofs.Steps.{sweep_over, all_numbers-next, sweep_text-next}

@@ -1,4 +1,4 @@
-use Rattle.std.proofs.Common.{◌≡◌, ◌≤◌, ◌*◌, ℕ, suc, length}
+use Rattle.std.proofs.Common.{◌≡◌, ◌≤◌, ◌*◌, ℕ, length}
 use Rattle.uts_io.specs.Streams.{grown}
 use Rattle.problem_types.specs.Thin.{IsThin, thin_problem}
 use Rattle.problem_types.specs.Dump.{step_text}

@@ -1,6 +1,5 @@
-use Rattle.std.proofs.Common.{Ok, Err, ap, refl, ◌∙◌}
+use Rattle.std.proofs.Common.{Err, ap, refl, ◌∙◌}
 use Rattle.std.proofs.lemmas.Result.{err_from_is_err_and}
-use Rattle.uts_io.specs.Streams.{grew_both}
 use Rattle.plain_engine.proofs.Writing.{failed_before, failed_alike, then_writes, all_written}
 use Rattle.plain_engine.proofs.step.write_step.Goals as goal
 

@@ -1,4 +1,4 @@
-use Rattle.std.proofs.Common.{rules, sym, ◌∙◌, ◌≡◌, ℕ, ℤ, pos, w64, FitsSigned}
+use Rattle.std.proofs.Common.{rules, sym, ◌∙◌, ℕ, ℤ, pos, w64, FitsSigned}
 use Rattle.std.proofs.lemmas.Int.{to_z-of_z}
 use Rattle.problem_types.specs.Dump.{row_text-none}
 use Rattle.plain_engine.specs.Sweep.{number_at}

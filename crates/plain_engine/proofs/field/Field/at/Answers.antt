@@ -1,6 +1,5 @@
-use Rattle.std.proofs.Common.{rules, arith, ◌≡◌, ◌+◌, ◌*◌, ◌<◌, ◌∙◌, ap, sym, w64, FitsSigned, slice_index_or, pos, ◌+ℤ◌}
+use Rattle.std.proofs.Common.{rules, ◌≡◌, ◌+◌, ◌*◌, ◌∙◌, ap, sym, w64, FitsSigned, slice_index_or, pos}
 use Rattle.std.proofs.lemmas.Int.{to_z-of_z}
-use Rattle.kernel_ast.specs.Index.{Index}
 use Rattle.problem_types.specs.Index.{moved, offset_of}
 use Rattle.plain_engine.proofs.Places.{stored_inside, stored_beside_x, stored_beside_y, stored_beside_z, of_none}
 use Rattle.plain_engine.proofs.field.Field.at.Goals as goal

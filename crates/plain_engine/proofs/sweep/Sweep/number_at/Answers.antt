@@ -1,4 +1,4 @@
-use Rattle.std.proofs.Common.{rules, arith, ◌≡◌, ◌∙◌, ◌≤◌, pos, w64, FitsSigned, to_z}
+use Rattle.std.proofs.Common.{rules, arith, ◌∙◌, ◌≤◌, pos, w64, FitsSigned}
 use Rattle.std.proofs.lemmas.Int.{to_z-of_z, ints}
 use Rattle.plain_engine.proofs.Cells.{number_at_cell}
 use Rattle.plain_engine.proofs.sweep.Sweep.number_at.Goals as goal
