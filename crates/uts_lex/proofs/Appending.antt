@@ -8,7 +8,7 @@ use Rattle.uts_lex.specs.declared.token.Token.{Token}
 use Rattle.uts_lex.specs.Lexemes.{Lexeme, lexemes_of}
 use Rattle.uts_lex.specs.Spelling.{IsLexeme}
 use Rattle.uts_lex.proofs.Spellings.{tokens_spelled}
-use Rattle.uts_lex.specs.Tokens.{lexeme_at, StandsIn, AppendsTokens, IsFirstToken}
+use Rattle.uts_lex.specs.Tokens.{lexeme_at, StandsIn, FillLine, AppendsTokens, IsFirstToken}
 
 -- new is old and behind it the tokens of a line up to a place; the tokens of the rest are still to come
 pub record HasTokensTo (text : List ℕ) (from place to line : ℕ) (old new : List Token) : Type 0 where
@@ -19,6 +19,7 @@ pub record HasTokensTo (text : List ℕ) (from place to line : ℕ) (old new : L
   pub in_order : AllPairs (λ token next. token.end ≤ next.start) tokens
   pub behind : from ≤ place
   pub inside : place ≤ to
+  pub between : (more : List Token) → FillLine text place to more → FillLine text from to (tokens ++ more)
 
 stands_further : (line from place further : ℕ) → place ≤ further → (token : Token) → StandsIn line from place token → StandsIn line from further token
 stands_further line from place further less token stands = record {
@@ -55,12 +56,13 @@ one_token_more text from place to line old new token has first = record {
       (λ k d within. omega (arith, (has.places k d within).to_end, first.0.from_start));
   behind = omega (arith, has.behind, first.0.from_start, first.0.not_empty);
   inside = first.0.to_end;
+  between = λ more fill. rw (append_assoc has.tokens (token ∷ []) more) (has.between (token ∷ more) (first.2, fill));
 }
 
 all_lexemes : (text : List ℕ) (from place to line : ℕ) (old new : List Token) (has : HasTokensTo text from place to line old new)
     → IsFirstToken text place to line None → lexemes_of (slice_range text from to) ≡ Some (map (lexeme_at text) has.tokens)
 all_lexemes text from place to line old new has none =
-    has.lexemes ∙ ap (option_map (λ more. map (lexeme_at text) has.tokens ++ more)) none ∙ ap Some (append-nil (map (lexeme_at text) has.tokens))
+    has.lexemes ∙ ap (option_map (λ more. map (lexeme_at text) has.tokens ++ more)) none.0 ∙ ap Some (append-nil (map (lexeme_at text) has.tokens))
 
 spelled_at : (text : List ℕ) (tokens : List Token) → All IsLexeme (map (lexeme_at text) tokens) → All (λ token. IsLexeme (lexeme_at text token)) tokens
 spelled_at text tokens spelled k d within =
@@ -75,4 +77,5 @@ all_tokens text from place to line old new has none = record {
   spelled = spelled_at text has.tokens (tokens_spelled (slice_range text from to) (map (lexeme_at text) has.tokens) (all_lexemes text from place to line old new has none));
   places = All-weaker (StandsIn line from place) (StandsIn line from to) (stands_further line from place to has.inside) has.tokens has.places;
   in_order = has.in_order;
+  between = subst (FillLine text from to) (append-nil has.tokens) (has.between [] none.1);
 }

@@ -1,13 +1,14 @@
 -- The tokens of a line from its front on.
 use Rattle.std.proofs.Common.{◌≡◌, ℕ, zero, suc, ◌+◌, ◌-◌, ◌<◌, ◌≤◌, Bool, true, false, cond, List, [], ◌∷◌, length, get_or, take, drop, slice_range, Some, None, refl, ap, ◌∙◌, arith}
-use Rattle.std.specs.List.{prefix_len}
+use Rattle.std.specs.Prelude.{◌||◌}
+use Rattle.std.specs.List.{list_all, prefix_len}
 use Rattle.std.specs.Option.{option_map}
 use Rattle.std.proofs.lemmas.Grind.{common_steps}
 use Rattle.std.proofs.lemmas.List.{length-take-le, drop-take, drop-drop}
 use Rattle.std.proofs.lemmas.List.Sums.{prefix_len-le-length, prefix_len_stops}
 use Rattle.uts_lex.specs.declared.token.Kind.{Kind}
 use Rattle.uts_lex.specs.Tokens.{IsFirstToken}
-use Rattle.uts_lex.specs.Lexemes.{lexeme, is_blank, begins_comment, front_lexeme, lexemes_behind, lexemes_of}
+use Rattle.uts_lex.specs.Lexemes.{lexeme, is_blank, begins_comment, ends_line, front_lexeme, lexemes_behind, lexemes_of}
 
 -- what stands behind some bytes are the tokens of the rest
 pub tokens_behind : (bytes : List ℕ) (n : ℕ) → lexemes_behind bytes n ≡ lexemes_of (drop n bytes)
@@ -41,7 +42,46 @@ pub nothing_left : (bytes : List ℕ) → lexemes_of (drop (length bytes) bytes)
 nothing_left [] = refl
 nothing_left (b ∷ bs) = nothing_left bs
 
-pub ruleset gaps = (prefix_len-le-length, prefix_len_stops, past_blanks, comment, nothing_left)
+-- the blanks at the front
+blanks_at : (b : ℕ) (bs : List ℕ) (blank : Bool) → is_blank b ≡ blank → list_all is_blank (take (prefix_len is_blank bs) bs) ≡ true
+    → list_all is_blank (take (cond blank (1 + prefix_len is_blank bs) 0) (b ∷ bs)) ≡ true
+blanks_at b bs true blank more =
+    let next : 1 + prefix_len is_blank bs ≡ suc (prefix_len is_blank bs) = omega arith in
+    rw (next, blank) more
+blanks_at b bs false other more = refl
+
+pub front_blanks : (bytes : List ℕ) → list_all is_blank (take (prefix_len is_blank bytes) bytes) ≡ true
+front_blanks [] = refl
+front_blanks (b ∷ bs) = blanks_at b bs (is_blank b) refl (front_blanks bs)
+
+or_true : (t : Bool) → (t || true) ≡ true
+or_true true = refl
+or_true false = refl
+
+-- a line of blanks, and one whose first byte behind blanks begins a comment, have nothing else
+ends_at : (b : ℕ) (bs : List ℕ) (blank : Bool) → is_blank b ≡ blank → (prefix_len is_blank bs ≡ length bs → ends_line bs ≡ true)
+    → cond blank (1 + prefix_len is_blank bs) 0 ≡ length (b ∷ bs) → ends_line (b ∷ bs) ≡ true
+ends_at b bs true blank more all = let rest : ends_line bs ≡ true = more (omega arith) in rw (blank, rest) (or_true (begins_comment b))
+ends_at b bs false other more all = absurd (omega arith)
+
+pub blanks_end : (bytes : List ℕ) → prefix_len is_blank bytes ≡ length bytes → ends_line bytes ≡ true
+blanks_end [] all = refl
+blanks_end (b ∷ bs) all = ends_at b bs (is_blank b) refl (blanks_end bs) all
+
+comment_at : (b : ℕ) (bs : List ℕ) (blank : Bool) → is_blank b ≡ blank
+    → (prefix_len is_blank bs < length bs → get_or bs (prefix_len is_blank bs) 0 ≡ 35 → ends_line bs ≡ true)
+    → cond blank (1 + prefix_len is_blank bs) 0 < length (b ∷ bs) → get_or (b ∷ bs) (cond blank (1 + prefix_len is_blank bs) 0) 0 ≡ 35 → ends_line (b ∷ bs) ≡ true
+comment_at b bs true blank more inside is =
+    let next : 1 + prefix_len is_blank bs ≡ suc (prefix_len is_blank bs) = omega arith in
+    let rest : ends_line bs ≡ true = more (omega arith) (let at = rw next at is in at) in
+    rw (blank, rest) (or_true (begins_comment b))
+comment_at b bs false other more inside is = rw is refl
+
+pub comment_ends : (bytes : List ℕ) → prefix_len is_blank bytes < length bytes → get_or bytes (prefix_len is_blank bytes) 0 ≡ 35 → ends_line bytes ≡ true
+comment_ends [] inside is = absurd (omega arith)
+comment_ends (b ∷ bs) inside is = comment_at b bs (is_blank b) refl (comment_ends bs) inside is
+
+pub ruleset gaps = (prefix_len-le-length, prefix_len_stops, past_blanks, comment, nothing_left, front_blanks, blanks_end, comment_ends)
 
 -- the token at the front of a line that begins with neither a blank nor a comment
 pub front_first : (bytes : List ℕ) (kind : Kind) (n : ℕ) → 0 < n → n ≤ length bytes → is_blank (get_or bytes 0 0) ≡ false → begins_comment (get_or bytes 0 0) ≡ false
@@ -74,8 +114,9 @@ pub token_behind_gap : (text rest : List ℕ) (from to gap n line : ℕ) (kind :
     → rest ≡ drop gap (slice_range text from to) → lexemes_of (slice_range text from to) ≡ lexemes_of rest
     → is_blank (get_or rest 0 0) ≡ false → begins_comment (get_or rest 0 0) ≡ false
     → front_lexeme rest ≡ Some (lexeme kind (take n rest)) → 0 < n → n ≤ length rest
+    → list_all is_blank (take gap (slice_range text from to)) ≡ true
     → IsFirstToken text from to line (Some (record { kind = kind; start = from + gap; end = from + gap + n; line = line }))
-token_behind_gap text rest from to gap n line kind ordered inside in_slice rest_is same blank hash front some fits =
+token_behind_gap text rest from to gap n line kind ordered inside in_slice rest_is same blank hash front some fits blanks =
     let size = length_of_slice text from to ordered inside in
     let cut = rest_is ∙ cut_again text from to gap (omega arith) in
     let left : length rest ≡ to - (from + gap) = ap length cut ∙ length_of_slice text (from + gap) to (omega arith) inside in
@@ -84,4 +125,5 @@ token_behind_gap text rest from to gap n line kind ordered inside in_slice rest_
     let first = front_first rest kind n some fits blank hash front in (
       record { number = refl; from_start = omega arith; not_empty = omega arith; to_end = omega arith },
       same ∙ first ∙ (λ i. option_map (λ more. lexeme kind (token_is i) ∷ more) (lexemes_of (more_is i))),
+      rw (← front_of_slice text from to gap (omega arith)) blanks,
     )

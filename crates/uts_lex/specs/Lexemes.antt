@@ -1,5 +1,5 @@
 -- The tokens that the bytes of a line spell, each as its kind and its bytes.
-use Rattle.std.specs.Prelude.{◌≡◌, ℕ, zero, suc, ◌-◌, ◌^◌, ◌==◌, Bool, ◌&&◌, ◌||◌, List, [], ◌∷◌, length, take, take_while, Option, Some, None, option_and_then, if◌then◌else◌, nat_lt, nat_le, codes, decimal}
+use Rattle.std.specs.Prelude.{◌≡◌, ℕ, zero, suc, ◌-◌, ◌^◌, ◌==◌, Bool, true, ◌&&◌, ◌||◌, List, [], ◌∷◌, length, take, take_while, Option, Some, None, option_and_then, if◌then◌else◌, nat_lt, nat_le, codes, decimal}
 use Rattle.std.specs.Char.{is_ascii_alphabetic, is_ascii_alphanumeric, is_ascii_digit}
 use Rattle.std.specs.List.{list_any}
 use Rattle.std.specs.Option.{option_map}
@@ -23,6 +23,11 @@ is_blank byte = byte == 32 || byte == 9 || byte == 13
 -- `#` begins a comment, which runs to the end of the line
 abbrev pub begins_comment : ℕ → Bool
 begins_comment byte = byte == 35
+
+-- blanks, and behind them nothing or a comment
+abbrev pub ends_line : List ℕ → Bool
+ends_line [] = true
+ends_line (byte ∷ bytes) = begins_comment byte || (is_blank byte && ends_line bytes)
 
 -- a letter, a digit or `_` goes on with a word
 abbrev pub is_word_byte : ℕ → Bool

@@ -1,9 +1,9 @@
 //! What stands at the front of some bytes: blanks and comments, or a token.
-ghost use Rattle.std.specs.Prelude.{◌≡◌, ◌<◌, ◌≤◌, length, take, drop, slice_index, IfSome, false};
+ghost use Rattle.std.specs.Prelude.{◌≡◌, ◌<◌, ◌≤◌, length, take, drop, slice_index, IfSome, IsTrue, false};
 ghost use Rattle.std.specs.Char.{is_ascii_digit};
-ghost use Rattle.std.specs.List.{prefix_len};
+ghost use Rattle.std.specs.List.{list_all, prefix_len};
 ghost use Rattle.std.specs.Option.{option_map};
-ghost use Rattle.uts_lex.specs.Lexemes.{lexeme, is_blank, begins_comment, is_word_byte, sign_length, front_lexeme, lexemes_of};
+ghost use Rattle.uts_lex.specs.Lexemes.{lexeme, is_blank, begins_comment, ends_line, is_word_byte, sign_length, front_lexeme, lexemes_of};
 
 use crate::token::Kind;
 use uts_num::read_u64;
@@ -18,6 +18,8 @@ pub(crate) fn gap_length(line: &[u8]) -> usize
     ensures no_token { lexemes_of line.now ≡ lexemes_of (drop result line.now) }
     ensures no_blank { result < length line.now → is_blank (slice_index line.now result) ≡ false }
     ensures no_comment { result < length line.now → begins_comment (slice_index line.now result) ≡ false }
+    ensures blanks { result < length line.now → IsTrue (list_all is_blank (take result line.now)) }
+    ensures ends { result ≡ length line.now → IsTrue (ends_line line.now) }
 {
     let blanks = blank_run(line);
     match line.get(blanks) {

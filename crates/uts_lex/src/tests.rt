@@ -71,6 +71,14 @@ fn reads_no_token_of_blanks_and_comments(rt: HostRuntime) -> Result<(), Fail> {
     Ok(())
 }
 
+#[test]
+fn a_comment_has_no_tokens(rt: HostRuntime) -> Result<(), Fail> {
+    let mut out = Vec::new(rt.alloc());
+    assert_eq!(rt; lex_line(b"a #a", 0, 1, &mut out).ok(), Some(4));
+    assert_eq!(rt; out.as_slice(), [token(Kind::Word, 0, 1, 1)].as_slice());
+    Ok(())
+}
+
 /// The kinds of the tokens of a line with their lengths, or the fault.
 fn shape(alloc: Global, line: &[u8]) -> Result<String, Fail>
     requires { length line.now < 2 ^ 32 }

@@ -3,10 +3,8 @@
 
 mod arithmetic;
 mod decimal;
-mod prefix;
 #[cfg(test)]
 mod tests;
 
 pub use arithmetic::{wadd, wdiv, wmul, wrem, wsub};
 pub use decimal::{NoMemory, put_i64, read_u64};
-pub use prefix::{integer_prefix, number_prefix};

@@ -1,5 +1,5 @@
 //! Values counted by hand.
-use crate::{integer_prefix, number_prefix, put_i64, read_u64, wadd, wdiv, wmul, wrem, wsub};
+use crate::{put_i64, read_u64, wadd, wdiv, wmul, wrem, wsub};
 use std::test::Fail;
 
 #[test]
@@ -57,28 +57,5 @@ fn reads_only_canonical_decimals(rt: HostRuntime) {
         b"100000000000000000000",
     ] {
         assert_eq!(rt; read_u64(bytes), None);
-    }
-}
-
-#[test]
-fn takes_a_number_off_the_front(rt: HostRuntime) {
-    assert!(rt; number_prefix(b"12,3") == Some((12, b",3".as_slice())));
-    assert!(rt; number_prefix(b"0") == Some((0, b"".as_slice())));
-    for bytes in [b"".as_slice(), b",3", b"012", b"18446744073709551616 "] {
-        assert!(rt; number_prefix(bytes).is_none());
-    }
-    assert!(rt; integer_prefix(b"-12-3") == Some((-12, b"-3".as_slice())));
-    assert!(rt; integer_prefix(b"0x") == Some((0, b"x".as_slice())));
-    assert!(rt; integer_prefix(b"9223372036854775807") == Some((i64::MAX, b"".as_slice())));
-    assert!(rt; integer_prefix(b"-9223372036854775808") == Some((i64::MIN, b"".as_slice())));
-    for bytes in [
-        b"-".as_slice(),
-        b"-0",
-        b"--1",
-        b"-01",
-        b"9223372036854775808",
-        b"-9223372036854775809",
-    ] {
-        assert!(rt; integer_prefix(bytes).is_none());
     }
 }

@@ -16,3 +16,4 @@ returns-in-Some-clause-first c =
     (grind (arith, common_steps, c.gap_length-gap.ensures.no_blank not_at_end))
     (grind (arith, common_steps, c.gap_length-gap.ensures.no_comment not_at_end))
     c.in-Some.ensures.token c.in-Some.ensures.not_empty c.in-Some.ensures.inside
+    (c.gap_length-gap.ensures.blanks not_at_end)
