@@ -14,7 +14,6 @@ use Rattle.kernel_ast.specs.declared.expression.Expr.{Expr}
 use Rattle.kernel_ast.specs.declared.expression.Expr.TheVariants as expr
 use Rattle.kernel_parse.specs.Signs.{place_of}
 use Rattle.kernel_parse.specs.Grammar.{Words, SpellsRead, own, coarse, fine, reduction, Form, Spells, one_sum, compared, one_product, added, one_unary, multiplied, one_primary, negated, literal, place, read, grouped, called, selected, SpellsExpression}
-use Rattle.kernel_ast.specs.Size.{depth_of, node_count}
 use Rattle.kernel_parse.specs.Reading.{parsed, all_of}
 use Rattle.kernel_parse.specs.Source.{Extends}
 use Rattle.kernel_parse.specs.SourceLaws.{Extends_refl, Extends_trans, Extends_with_name, length_with_name}
@@ -97,15 +96,13 @@ spelled_in_form (selected room ts us vs names one two after c a b s t u) =
     let h = spelled_in_form u in
     (omega (arith, f.0, g.0, h.0), λ n le. are_leaves_in_form-Select n c a b ∙ both_true _ _ (both_true _ _ (f.1 n (omega (arith, g.0, h.0))) (g.1 n (omega (arith, h.0)))) (h.1 n le))
 
--- what all of the tokens are read as is in form, where it is within the limits
-pub all_in_form : (names after : Words) (ts : List Lexeme) (e : Expr) → all_of names ts ≡ Some (parsed e after []) → depth_of e ≤ 64 → node_count e ≤ 256
-    → IsWithin (length after) 64 256 e
-all_in_form names after ts e is shallow few =
-    record { shallow = shallow; few_nodes = few; leaves = (spelled_in_form (all_spelled names after ts e is)).1 (length after) (omega arith) }
-
 pub expression_in_form : (ts : List Lexeme) (names after : Words) (e : Expr) (known : ℕ) → SpellsExpression ts names e after → length after ≤ known → IsExpressionInForm known e
 expression_in_form ts names after e known s within =
     record { shallow = s.shallow; few_nodes = s.few_nodes; leaves = (spelled_in_form s.spelled).1 known within }
+
+-- so is what all of the tokens are read as
+pub all_in_form : (names after : Words) (ts : List Lexeme) (e : Expr) → all_of names ts ≡ Some (parsed e after []) → IsWithin (length after) 64 256 e
+all_in_form names after ts e is = expression_in_form ts names after e (length after) (all_spelled names after ts e is) (omega arith)
 
 -- ---- the words behind
 

@@ -7,3 +7,4 @@ pub mod Firsts
 pub mod SourceLaws
 pub mod LineTokens
 pub mod Signed
+pub mod Laws

@@ -187,7 +187,8 @@ pub(crate) fn name_of<'a>(text: &'a [u8], token: &Token) -> Option<&'a [u8]>
     if is_reserved(word) { None } else { Some(word) }
 }
 
-fn is_reserved(word: &[u8]) -> bool
+/// Whether the word is none that may be a name.
+pub fn is_reserved(word: &[u8]) -> bool
     ensures { result ≡ is_reserved word.now }
 {
     word == b"coarse".as_slice()

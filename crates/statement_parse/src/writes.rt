@@ -9,7 +9,7 @@ ghost use Rattle.statement_parse.specs.Reading.{target_at, IsWritten};
 
 use crate::fault::StatementFault;
 use crate::statement::Statement;
-use crate::words::split_centring;
+use crate::words::{CENTRINGS, split_meaning};
 use kernel_parse::{ExprFault, behind_sign, behind_word, parse_expr, split_name};
 use problem_types::WriteKind;
 use std::alloc::Global;
@@ -35,7 +35,7 @@ pub(crate) fn split_target<'t, 'a>(text: &'t [u8], tokens: &'a [Token]) -> Optio
     }
     let rest = behind_word(text, tokens, b"reduces")?;
     let (name, rest) = split_name(text, rest)?;
-    let (centring, rest) = split_centring(text, rest)?;
+    let (centring, rest) = split_meaning(text, rest, &CENTRINGS)?;
     let rest = behind_sign(text, rest, b"=")?;
     Some((name, WriteKind::Reduces(centring), rest))
 }
