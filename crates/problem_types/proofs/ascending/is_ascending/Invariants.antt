@@ -1,5 +1,5 @@
 use Rattle.std.proofs.Common.{ℕ, ◌+◌, ◌<◌, get_or}
-use Rattle.problem_types.proofs.form.is_ascending.Given as goal
+use Rattle.problem_types.proofs.ascending.is_ascending.Given as goal
 
 -- each number so far is below the next
 abbrev pub invariant-loop-i : goal.invariant-loop-i
