@@ -21,14 +21,14 @@ one_word (w ∷ []) word one first = let same : word ≡ w = cc in ap (λ x. str
 one_word (w ∷ v ∷ words) word one first = absurd (omega arith)
 
 -- the line of a failure with its reason
-pub error_line : (left : Option (List ℕ)) (s o : Type 0) (f : Failure) → IsReason left s o f → ErrorLine left (status_of f) (line_of f)
-error_line left s o Usage reason = absurd reason
-error_line left s o TooLong reason = too_long reason
-error_line left s o (BadText bad) reason = bad_text bad reason
-error_line left s o NotYet reason = not_yet reason
-error_line left s o ReadFault reason = read_fault
-error_line left s o WriteFault reason = write_fault
-error_line left s o NoMemory reason = no_memory
+pub error_line : (words : List (String Global)) (left : Option (List ℕ)) (s o : Type 0) (f : Failure) → IsReason left s o f → ErrorLine words left (status_of f) (line_of f)
+error_line words left s o Usage reason = absurd reason
+error_line words left s o TooLong reason = too_long reason
+error_line words left s o (BadText bad) reason = bad_text bad reason
+error_line words left s o NotYet reason = not_yet reason
+error_line words left s o ReadFault reason = read_fault
+error_line words left s o WriteFault reason = write_fault
+error_line words left s o NoMemory reason = no_memory
 
 -- no failure whose line failed has one of the first statuses
 high_after_fault : (f : Failure) → 2 < status_after_fault f
@@ -40,40 +40,40 @@ high_after_fault ReadFault = omega arith
 high_after_fault WriteFault = omega arith
 high_after_fault NoMemory = omega arith
 
-module _ (left : Option (List ℕ)) (f : Failure) (after : List ℕ → List ℕ → List ℕ) (old new : Option (List ℕ)) (before now status : ℕ)
-    (is : ErrorLine left (status_of f) (line_of f)) where
+module _ (words : List (String Global)) (left : Option (List ℕ)) (f : Failure) (after : List ℕ → List ℕ → List ℕ) (old new : Option (List ℕ)) (before now status : ℕ)
+    (is : ErrorLine words left (status_of f) (line_of f)) where
   -- at the first statuses, and where standard error did not fail, the line stands there
   pub told_whole : IsTold f after old new before now status → (status ≤ 2) ⊎ (Rose before now → ⊥) →
-      (line : List ℕ) × ErrorLine left status line × (new ≡ grown after old line)
-  told_whole (inl told) why = (line_of f, subst (λ n. ErrorLine left n (line_of f)) (sym told.0) is, told.1)
+      (line : List ℕ) × ErrorLine words left status line × (new ≡ grown after old line)
+  told_whole (inl told) why = (line_of f, subst (λ n. ErrorLine words left n (line_of f)) (sym told.0) is, told.1)
   told_whole (inr failed) (inr calm) = absurd (calm failed.1)
   told_whole (inr failed) (inl few) =
       let high : 2 < status = subst (λ n. 2 < n) (sym failed.0) (high_after_fault f) in absurd (omega arith)
 
 -- and else a prefix of it, or of the line that could not be told
-pub told_part : (left : Option (List ℕ)) (f : Failure) (after : List ℕ → List ℕ → List ℕ) (old new : Option (List ℕ)) (before now status : ℕ) →
-    ErrorLine left (status_of f) (line_of f) → IsTold f after old new before now status →
-    (told : ℕ) × (line : List ℕ) × ErrorLine left told line
+pub told_part : (words : List (String Global)) (left : Option (List ℕ)) (f : Failure) (after : List ℕ → List ℕ → List ℕ) (old new : Option (List ℕ)) (before now status : ℕ) →
+    ErrorLine words left (status_of f) (line_of f) → IsTold f after old new before now status →
+    (told : ℕ) × (line : List ℕ) × ErrorLine words left told line
     × ((told ≡ status) ⊎ ((status ≡ 4) × ((told ≡ 1) ⊎ (told ≡ 2)))) × GrewByPrefix after old new line
-told_part left f after old new before now status is (inl told) =
+told_part words left f after old new before now status is (inl told) =
     (status_of f, line_of f, is, inl (sym told.0), prefix_of_all after old new (line_of f) told.1)
-told_part left Usage after old new before now status is (inr failed) = (2, line_of Usage, is, inr (failed.0, inr refl), failed.2)
-told_part left TooLong after old new before now status is (inr failed) = (1, line_of TooLong, is, inr (failed.0, inl refl), failed.2)
-told_part left (BadText bad) after old new before now status is (inr failed) = (1, line_of (BadText bad), is, inr (failed.0, inl refl), failed.2)
-told_part left NotYet after old new before now status is (inr failed) = (1, line_of NotYet, is, inr (failed.0, inl refl), failed.2)
-told_part left ReadFault after old new before now status is (inr failed) = (3, line_of ReadFault, is, inl (sym failed.0), failed.2)
-told_part left WriteFault after old new before now status is (inr failed) = (4, line_of WriteFault, is, inl (sym failed.0), failed.2)
-told_part left NoMemory after old new before now status is (inr failed) = (5, line_of NoMemory, is, inl (sym failed.0), failed.2)
+told_part words left Usage after old new before now status is (inr failed) = (2, line_of Usage, is, inr (failed.0, inr refl), failed.2)
+told_part words left TooLong after old new before now status is (inr failed) = (1, line_of TooLong, is, inr (failed.0, inl refl), failed.2)
+told_part words left (BadText bad) after old new before now status is (inr failed) = (1, line_of (BadText bad), is, inr (failed.0, inl refl), failed.2)
+told_part words left NotYet after old new before now status is (inr failed) = (1, line_of NotYet, is, inr (failed.0, inl refl), failed.2)
+told_part words left ReadFault after old new before now status is (inr failed) = (3, line_of ReadFault, is, inl (sym failed.0), failed.2)
+told_part words left WriteFault after old new before now status is (inr failed) = (4, line_of WriteFault, is, inl (sym failed.0), failed.2)
+told_part words left NoMemory after old new before now status is (inr failed) = (5, line_of NoMemory, is, inl (sym failed.0), failed.2)
 
 -- nothing to tell
-pub nothing_told : (left : Option (List ℕ)) (after : List ℕ → List ℕ → List ℕ) (silent : NoneChangeNothing after) (old : Option (List ℕ)) →
-    (line : List ℕ) × ErrorLine left 0 line × (old ≡ grown after old line)
-nothing_told left after silent old = ([], none, sym (grown-nil after old silent))
+pub nothing_told : (words : List (String Global)) (left : Option (List ℕ)) (after : List ℕ → List ℕ → List ℕ) (silent : NoneChangeNothing after) (old : Option (List ℕ)) →
+    (line : List ℕ) × ErrorLine words left 0 line × (old ≡ grown after old line)
+nothing_told words left after silent old = ([], none, sym (grown-nil after old silent))
 
-pub nothing_told_part : (left : Option (List ℕ)) (after : List ℕ → List ℕ → List ℕ) (silent : NoneChangeNothing after) (old : Option (List ℕ)) →
-    (told : ℕ) × (line : List ℕ) × ErrorLine left told line
+pub nothing_told_part : (words : List (String Global)) (left : Option (List ℕ)) (after : List ℕ → List ℕ → List ℕ) (silent : NoneChangeNothing after) (old : Option (List ℕ)) →
+    (told : ℕ) × (line : List ℕ) × ErrorLine words left told line
     × ((told ≡ 0) ⊎ ((◌≡◌ {A = ℕ} 0 4) × ((told ≡ 1) ⊎ (told ≡ 2)))) × GrewByPrefix after old old line
-nothing_told_part left after silent old = (0, [], none, inl refl, prefix_of_nothing after old [] silent)
+nothing_told_part words left after silent old = (0, [], none, inl refl, prefix_of_nothing after old [] silent)
 
 -- what was reported was told of the failure, or of the memory that its line had no room in
 pub of_reported : {P : Type 0} (left : Option (List ℕ)) (s o : Type 0) (f : Failure) (after : List ℕ → List ℕ → List ℕ) (old new : Option (List ℕ))

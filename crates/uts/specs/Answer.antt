@@ -36,14 +36,14 @@ pub data Answers (words : List (String Global)) (text : List ℕ) : ℕ → List
   dump : IsPlain words → length text ≤ 2 ^ 20 → (p : Problem) → Spells text p → IsThinProblem p
       → Answers words text 0 (dump_text p [])
 
--- the line on standard error for a status, where the source has this text
-pub data ErrorLine (text : Option (List ℕ)) : ℕ → List ℕ → Type 0 where
-  none : ErrorLine text 0 []
-  too_long : IfSome text IsTooLong → ErrorLine text 1 (line (codes "refused: too long"))
+-- the line on standard error for a status, for these words and where the source has this text
+pub data ErrorLine (words : List (String Global)) (text : Option (List ℕ)) : ℕ → List ℕ → Type 0 where
+  none : ErrorLine words text 0 []
+  too_long : IfSome text IsTooLong → ErrorLine words text 1 (line (codes "refused: too long"))
   bad_text : (bad : ℕ) → IfSome text (λ t. IsBadText t bad)
-      → ErrorLine text 1 (line (codes "refused: bad text, line " ++ decimal bad))
-  not_yet : IfSome text IsNotYet → ErrorLine text 1 (line (codes "refused: not yet"))
-  usage_line : ErrorLine text 2 (line (codes "usage: plain, check, graph, make N, run W, mill N W"))
-  read_fault : ErrorLine text 3 (line (codes "read fault"))
-  write_fault : ErrorLine text 4 (line (codes "write fault"))
-  no_memory : ErrorLine text 5 (line (codes "no memory"))
+      → ErrorLine words text 1 (line (codes "refused: bad text, line " ++ decimal bad))
+  not_yet : IfSome text IsNotYet → ErrorLine words text 1 (line (codes "refused: not yet"))
+  usage_line : (IsPlain words → ⊥) → ErrorLine words text 2 (line (codes "usage: plain, check, graph, make N, run W, mill N W"))
+  read_fault : ErrorLine words text 3 (line (codes "read fault"))
+  write_fault : ErrorLine words text 4 (line (codes "write fault"))
+  no_memory : ErrorLine words text 5 (line (codes "no memory"))

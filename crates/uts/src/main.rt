@@ -2,6 +2,7 @@
 #![tactic(auto)]
 
 mod failure;
+mod laws;
 mod plain;
 mod report;
 #[cfg(test)]

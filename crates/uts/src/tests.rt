@@ -141,14 +141,22 @@ fn faults_are_told(rt: HostRuntime) -> Result<(), Fail> {
     assert_eq!(rt; unread.status, 3);
     assert_eq!(rt; unread.out.len(), 0);
     assert_eq!(rt; unread.err.as_slice(), b"read fault\n".as_slice());
+    Ok(())
+}
+
+// Standard error fails once, and would take what comes then.
+#[test]
+fn a_line_that_failed_is_not_told_again(rt: HostRuntime) -> Result<(), Fail> {
     let err_fails = Faults {
         source: &[],
         out: &[],
         err: &[0],
     };
-    let untold = call(alloc, "plain", b"", &err_fails)?;
-    assert_eq!(rt; untold.status, 4);
-    assert_eq!(rt; untold.err.len(), 0);
+    for word in ["plain", "no command"] {
+        let untold = call(rt.alloc(), word, b"", &err_fails)?;
+        assert_eq!(rt; untold.status, 4, "{word}");
+        assert_eq!(rt; untold.err.len(), 0, "{word}");
+    }
     Ok(())
 }
 

@@ -1,8 +1,10 @@
 ghost use Rattle.std.specs.Prelude.{◌≡◌, ◌⊎◌, ◌≤◌, ◌↔◌, ℕ, List, [], IsTrue, IfSome, codes};
 ghost use Rattle.uts_io.specs.Streams.{Rose, grown, GrewByPrefix, IsAtEnd};
 ghost use Rattle.uts.specs.Answer.{IsPlain, Answers, ErrorLine};
+ghost use Rattle.uts.specs.Laws.{OneAnswer};
 
 use crate::failure::Failure;
+use crate::laws::one_answer;
 use crate::plain::plain;
 use crate::report::report;
 use problem_file::{no_problem_with_a_bad_line, one_problem};
@@ -39,6 +41,7 @@ pub fn quiet_top<R: Source, O: Sink, E: Sink>(
     ensures usage { (IsPlain words.now → ⊥) → (result ≡ 2) ⊎ ((result ≡ 4) × Rose (E.faults err.old) (E.faults err.new)) }
     ensures usage_only { result ≡ 2 → IsPlain words.now → ⊥ }
     ensures nothing_read { (IsPlain words.now → ⊥) → source.new ≡ source.old }
+    ensures nothing_written { (IsPlain words.now → ⊥) → out.new ≡ out.old }
 
     // Done: the source was read to its end, and the bytes for its text were written.
     ensures ended { result ≡ 0 → IsAtEnd (R.left source.new) }
@@ -58,8 +61,8 @@ pub fn quiet_top<R: Source, O: Sink, E: Sink>(
     // What stands on standard error: the line of the status at 0, 1 and 2, and wherever it did not fail. Where it
     // failed, it is a prefix of that line, or of the line that could not be told.
     ensures told { (result ≤ 2) ⊎ (Rose (E.faults err.old) (E.faults err.new) → ⊥) → (line : List ℕ)
-        × ErrorLine (R.left source.old) result line × (E.taken err.new ≡ grown E.after (E.taken err.old) line) }
-    ensures told_in_part { (status : ℕ) × (line : List ℕ) × ErrorLine (R.left source.old) status line
+        × ErrorLine words.now (R.left source.old) result line × (E.taken err.new ≡ grown E.after (E.taken err.old) line) }
+    ensures told_in_part { (status : ℕ) × (line : List ℕ) × ErrorLine words.now (R.left source.old) status line
         × ((status ≡ result) ⊎ ((result ≡ 4) × ((status ≡ 1) ⊎ (status ≡ 2))))
         × GrewByPrefix E.after (E.taken err.old) (E.taken err.new) line }
 
@@ -70,9 +73,18 @@ pub fn quiet_top<R: Source, O: Sink, E: Sink>(
     ensures completed_refusal { IfSome (R.left source.old) (λ text. Answers words.now text 1 []
         → (Rose (R.faults source.old) (R.faults source.new) → ⊥) → (Rose (E.faults err.old) (E.faults err.new) → ⊥)
         → (result ≡ 1) ⊎ (result ≡ 5)) }
+
+    // There is one answer, and no two, to each words and text.
+    ensures one_answer { OneAnswer }
+
+    // No count of faults falls.
+    ensures source_never_falls { R.faults source.old ≤ R.faults source.new }
+    ensures out_never_falls { O.faults out.old ≤ O.faults out.new }
+    ensures err_never_falls { E.faults err.old ≤ E.faults err.new }
 {
     one_problem();
     no_problem_with_a_bad_line();
+    one_answer();
     if !is_plain(words) {
         return report(alloc, err, Failure::Usage);
     }

@@ -5,10 +5,14 @@ use Rattle.uts.proofs.Statuses.{error_line, told_whole, told_part, nothing_told,
 use Rattle.uts.proofs.top.quiet_top.Goals as goal
 
 pub returns-then-not-is_plain-clause-told : goal.returns-then-not-is_plain-clause-told
-returns-then-not-is_plain-clause-told g c = of_usage _ _ _ _ _ _ c.report.ensures.told (λ told. told_whole _ Usage _ _ _ _ _ _ usage_line told)
+returns-then-not-is_plain-clause-told g c =
+    let other : IsPlain c.args.words.now → ⊥ = search rules in
+    of_usage _ _ _ _ _ _ c.report.ensures.told (λ told. told_whole _ _ Usage _ _ _ _ _ _ (usage_line other) told)
 
 pub returns-then-not-is_plain-clause-told_in_part : goal.returns-then-not-is_plain-clause-told_in_part
-returns-then-not-is_plain-clause-told_in_part g c = of_usage _ _ _ _ _ _ c.report.ensures.told (λ told. told_part _ Usage _ _ _ _ _ _ usage_line told)
+returns-then-not-is_plain-clause-told_in_part g c =
+    let other : IsPlain c.args.words.now → ⊥ = search rules in
+    of_usage _ _ _ _ _ _ c.report.ensures.told (λ told. told_part _ _ Usage _ _ _ _ _ _ (usage_line other) told)
 
 pub returns-in-Ok-clause-done : goal.returns-in-Ok-clause-done
 returns-in-Ok-clause-done g c = λ status.
@@ -21,10 +25,10 @@ returns-in-Ok-clause-prefix g c =
     prefix_of_answer c.one_problem.ensures c.no_problem_with_a_bad_line.ensures c.args.words.now plain _ _ g.met.O.Sink.after_none _ _ c.plain.ensures.refused c.plain.ensures.prefix
 
 pub returns-in-Ok-clause-told : goal.returns-in-Ok-clause-told
-returns-in-Ok-clause-told g c = λ why. nothing_told _ _ g.met.E.Sink.after_none _
+returns-in-Ok-clause-told g c = λ why. nothing_told _ _ _ g.met.E.Sink.after_none _
 
 pub returns-in-Ok-clause-told_in_part : goal.returns-in-Ok-clause-told_in_part
-returns-in-Ok-clause-told_in_part g c = nothing_told_part _ _ g.met.E.Sink.after_none _
+returns-in-Ok-clause-told_in_part g c = nothing_told_part _ _ _ g.met.E.Sink.after_none _
 
 pub returns-in-Ok-clause-completed_refusal : goal.returns-in-Ok-clause-completed_refusal
 returns-in-Ok-clause-completed_refusal g c =
@@ -45,12 +49,12 @@ returns-in-Err-clause-prefix g c =
 pub returns-in-Err-clause-told : goal.returns-in-Err-clause-told
 returns-in-Err-clause-told g c =
     of_reported _ _ _ c.in-Err.failure _ _ _ _ _ _ c.in-Err.ensures.reason c.report-in-Err.ensures.told
-    (λ f reason same told. told_whole _ f _ _ _ _ _ _ (error_line _ _ _ f reason) told)
+    (λ f reason same told. told_whole _ _ f _ _ _ _ _ _ (error_line _ _ _ _ f reason) told)
 
 pub returns-in-Err-clause-told_in_part : goal.returns-in-Err-clause-told_in_part
 returns-in-Err-clause-told_in_part g c =
     of_reported _ _ _ c.in-Err.failure _ _ _ _ _ _ c.in-Err.ensures.reason c.report-in-Err.ensures.told
-    (λ f reason same told. told_part _ f _ _ _ _ _ _ (error_line _ _ _ f reason) told)
+    (λ f reason same told. told_part _ _ f _ _ _ _ _ _ (error_line _ _ _ _ f reason) told)
 
 pub returns-in-Err-clause-completed : goal.returns-in-Err-clause-completed
 returns-in-Err-clause-completed g c =
