@@ -4,7 +4,7 @@ use Rattle.std.specs.Prelude.{nat_lt}
 use Rattle.std.proofs.lemmas.List.{append-nil}
 use Rattle.std.proofs.lemmas.Bool.Decides.{nat_tests}
 use Rattle.uts_lex.specs.Lexemes.{Lexeme}
-use Rattle.kernel_ast.specs.Size.{depth_of, node_count, depth_of-Neg, depth_of-Binary, depth_of-Select, node_count-Neg, node_count-Binary, node_count-Select}
+use Rattle.kernel_ast.specs.Size.{depth_of, node_count, depth_of_positive, depth_of-Neg, depth_of-Binary, depth_of-Select, node_count-Neg, node_count-Binary, node_count-Select}
 use Rattle.kernel_ast.specs.declared.expression.Store.{Store}
 use Rattle.kernel_ast.specs.declared.expression.Op.{Op}
 use Rattle.kernel_ast.specs.declared.expression.Expr.{Expr}
@@ -15,7 +15,6 @@ use Rattle.kernel_parse.specs.Grammar.{Words, SpellsRead, own, coarse, fine, red
 use Rattle.kernel_parse.specs.Reading.{behind_sign, first_as, Parsed, parsed, read_at, limited, Reader, unary_at, call_at, select_at, leaf_at, primary_at, product_at, sum_at, whole_at, expression_at, all_of}
 use Rattle.kernel_parse.specs.Numbers.{is_number-decimal, digits_value-decimal}
 use Rattle.kernel_parse.proofs.Tables.{call_case, place_case, store_case}
-use Rattle.kernel_ast.proofs.Limits.{depth_of_positive}
 use Rattle.kernel_parse.proofs.Again.{read_again}
 use Rattle.kernel_parse.proofs.Ends.{AfterUnary, AfterProduct, AfterSum, AfterWhole, ends_at_end, ends_at_shut, ends_at_comma, ends_at_comparison, ends_at_term, ends_at_factor, fits, Gets, GetsChain, chain_ends, chain_one, chain_more}
 

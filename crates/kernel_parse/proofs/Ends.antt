@@ -3,7 +3,7 @@ use Rattle.std.proofs.Common.{◌≡◌, ℕ, suc, ◌+◌, ◌-◌, ◌<◌, �
 use Rattle.std.specs.Prelude.{nat_le}
 use Rattle.std.proofs.lemmas.Bool.Decides.{nat_tests}
 use Rattle.uts_lex.specs.Lexemes.{Lexeme}
-use Rattle.kernel_ast.specs.Size.{depth_of, node_count, depth_of-Binary}
+use Rattle.kernel_ast.specs.Size.{depth_of, node_count, depth_of_positive, depth_of-Binary}
 use Rattle.kernel_ast.specs.declared.expression.Op.{Op}
 use Rattle.kernel_ast.specs.declared.expression.Expr.{Expr}
 use Rattle.kernel_ast.specs.declared.expression.Expr.TheVariants as expr
@@ -13,7 +13,6 @@ use Rattle.kernel_parse.specs.Grammar.{Words}
 use Rattle.kernel_parse.specs.Reading.{behind_sign, first_as, parsed, limited, Reader, more_at, chain_at}
 use Rattle.kernel_parse.proofs.Chains.{goes_on}
 use Rattle.kernel_parse.proofs.Tables.{comparison_case, term_case, factor_case}
-use Rattle.kernel_ast.proofs.Limits.{depth_of_positive}
 
 -- what stands behind does not go on with a read, a product, a sum or a comparison
 abbrev pub AfterUnary : List Lexeme → Type 0
