@@ -285,6 +285,16 @@ keep most
 end
 ";
 
+#[test]
+fn each_statement_stands_on_its_line(rt: HostRuntime) -> Result<(), Fail> {
+    let alloc = rt.alloc();
+    let p = problem(alloc)?;
+    assert!(rt; well_formed(alloc, &p)?);
+    let text = print(alloc, &p)?;
+    assert_eq!(rt; text.as_slice(), WANT.as_bytes());
+    Ok(())
+}
+
 /// A problem with comments, empty lines and other blanks.
 const LOOSE: &str =
     "# a cell\nproblem 1\nsteps 2\ndump 1\nghost 1\nmaterials 1\nlevel ratio 1\nbox 0 0 0 1 1 1\npatch 0 0 0 1 1 1\n\n\nvar u cell outside - 5\ninit\ntask start levels 0 materials 0\ncomputes u = 1-x-2 # of three\ntimestep\nkeep u\nend";
@@ -296,7 +306,7 @@ const PRINTED: &str =
 fn what_is_printed_is_read_again(rt: HostRuntime) -> Result<(), Fail> {
     let alloc = rt.alloc();
     let p = parse(alloc, LOOSE.as_bytes())?;
-    assert!(rt; well_formed(&p));
+    assert!(rt; well_formed(alloc, &p)?);
     let text = print(alloc, &p)?;
     assert_eq!(rt; text.as_slice(), PRINTED.as_bytes());
     let again = parse(alloc, PRINTED.as_bytes())?;

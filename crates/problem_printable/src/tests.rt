@@ -26,7 +26,7 @@ fn takes_name(alloc: Global, name: &[u8]) -> Result<bool, NoMemory> {
     let mut p = problem(alloc)?;
     p.names.pop();
     p.names.push(Name::new(alloc, name)?)?;
-    Ok(is_printable(&p))
+    is_printable(alloc, &p)
 }
 
 #[test]
@@ -46,7 +46,7 @@ fn each_name_is_a_word_of_its_own(rt: HostRuntime) -> Result<(), Fail> {
 fn takes_more_names(alloc: Global) -> Result<bool, NoMemory> {
     let mut p = problem(alloc)?;
     p.names.push(Name::new(alloc, b"more")?)?;
-    Ok(is_printable(&p))
+    is_printable(alloc, &p)
 }
 
 // Whether the variable may have the name with this number.
@@ -56,7 +56,7 @@ fn takes_variable(alloc: Global, name: u32) -> Result<bool, NoMemory> {
         var.name = name;
         p.vars.push(var)?;
     }
-    Ok(is_printable(&p))
+    is_printable(alloc, &p)
 }
 
 #[test]
@@ -72,7 +72,7 @@ fn takes_lines(alloc: Global, first: u32, last: u32) -> Result<bool, NoMemory> {
     let mut p = problem(alloc)?;
     p.version.line = first;
     p.end_line = last;
-    Ok(is_printable(&p))
+    is_printable(alloc, &p)
 }
 
 #[test]
@@ -90,7 +90,7 @@ fn takes_levels(alloc: Global, levels: &[u64]) -> Result<bool, NoMemory> {
         task.levels = Items::from_slice(alloc, levels)?;
         p.init.push(task)?;
     }
-    Ok(is_printable(&p))
+    is_printable(alloc, &p)
 }
 
 #[test]
@@ -108,7 +108,7 @@ fn takes_no_patches(alloc: Global) -> Result<bool, NoMemory> {
         level.patches = Items::new(alloc);
         p.levels.push(level)?;
     }
-    Ok(is_printable(&p))
+    is_printable(alloc, &p)
 }
 
 #[test]
