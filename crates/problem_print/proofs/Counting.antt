@@ -1,6 +1,6 @@
 -- Names that are known one after another: each is one of those before, or the next one.
 use Rattle.std.proofs.Common.{◌≡◌, ◌≢◌, ℕ, ◌+◌, ◌<◌, ◌≤◌, ◌==◌, Bool, true, false, cond, ◌||◌, nat_lt, List, [], ◌∷◌, ◌++◌, length, take, get_or, Some, None, refl, ap, sym, ◌∙◌, subst, arith}
-use Rattle.std.specs.Prelude.{AllPairs, All}
+use Rattle.std.specs.Prelude.{AllPairs}
 use Rattle.std.specs.List.{list_any, position_or_len}
 use Rattle.std.specs.Str.{bytes_eq}
 use Rattle.std.proofs.lemmas.Bool.Decides.{nat_tests}
@@ -11,12 +11,6 @@ use Rattle.uts_lex.specs.Names.{number_of, with_name}
 use Rattle.kernel_parse.specs.Grammar.{Words}
 use Rattle.problem_print.specs.Printed.{name_text}
 use Rattle.problem_printable.specs.Numbering.{known_behind}
-use Rattle.problem_printable.specs.Printable.{IsName}
-
--- distinct words that may be names
-pub record AreNames (names : Words) : Type 0 where
-  pub words : All IsName names
-  pub distinct : AllPairs ◌≢◌ names
 
 found : (p : List ℕ → Bool) (words : Words) → position_or_len p words < length words → list_any p words ≡ true
 found p [] h = absurd (omega arith)

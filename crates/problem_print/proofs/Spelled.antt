@@ -21,10 +21,10 @@ use Rattle.problem_file.specs.Laws.{WholeProblemsAreInOrder}
 use Rattle.problem_file.specs.declared.order.Place.{Place}
 use Rattle.problem_file.specs.declared.order.Place.TheVariants as place
 use Rattle.problem_printable.specs.Numbering.{statement_names, known_behind}
-use Rattle.problem_printable.specs.Printable.{IsSayable, IsPrintable}
+use Rattle.problem_printable.specs.Printable.{IsSayable, AreNames, IsPrintable}
 use Rattle.problem_print.specs.Printed.{statement_text, lines_text, printed_text}
 use Rattle.problem_print.proofs.Phrases.{TokensAreReadAgain, is_one_line, Reads}
-use Rattle.problem_print.proofs.Counting.{AreNames, between, none_behind, known_rises}
+use Rattle.problem_print.proofs.Counting.{between, none_behind, known_rises}
 use Rattle.problem_print.proofs.Sayings.{said_statement}
 
 -- ---- one line of a text
@@ -174,6 +174,5 @@ pub printed_is_read : TokensAreReadAgain → WholeProblemsAreInOrder → (p : Pr
 unfolding printed_text
 printed_is_read law order p h =
     let text = printed_text p in
-    let are : AreNames p.names = record { words = h.names; distinct = h.distinct } in
-    let all = all_left law p.names are text (statements_of p) [] 0 0 place.Start [] refl nothing (order p h.whole) h.lines h.numbered h.statements in
+    let all = all_left law p.names h.names text (statements_of p) [] 0 0 place.Start [] refl nothing (order p h.whole) h.lines h.numbered h.statements in
     record { lines = all.0; spelled = all.1; whole = h.whole }

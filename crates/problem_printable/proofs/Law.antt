@@ -86,12 +86,10 @@ module _ (in_form : SpelledInForm) (longest : LongestAtFront) where
   pub spelled_printable : SpelledCanBePrinted
   spelled_printable p (text, spelled) =
       let all = said spelled.spelled in
-      let names = all.named.kept no_names in
       record {
         whole = spelled.whole;
         lines = increasing_where_some 0 _ (let last = all.ascending in search rules);
-        names = names.each;
-        distinct = names.distinct;
+        names = all.named.kept no_names;
         numbered = all.named.numbered;
         statements = all.sayable _ (omega arith);
       }

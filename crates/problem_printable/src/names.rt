@@ -1,10 +1,10 @@
 //! Words that may be names of a problem.
-ghost use Rattle.std.specs.Prelude.{◌≡◌, ◌≢◌, ◌↔◌, ◌∷◌, IsTrue, IfOk, All, AllPairs};
+ghost use Rattle.std.specs.Prelude.{◌≡◌, ◌≢◌, ◌↔◌, ◌∷◌, IsTrue, IfOk, AllPairs};
 ghost use Rattle.std.specs.List.{list_all};
 ghost use Rattle.uts_lex.specs.Lexemes.{is_word_byte};
 ghost use Rattle.uts_lex.specs.Spelling.{IsWord};
 ghost use Rattle.kernel_parse.specs.Signs.{is_reserved};
-ghost use Rattle.problem_printable.specs.Printable.{IsName};
+ghost use Rattle.problem_printable.specs.Printable.{IsName, AreNames};
 
 use problem_types::{Name, NoMemory};
 use std::alloc::{AllocError, Global};
@@ -72,7 +72,7 @@ fn are_distinct(alloc: Global, names: &[Name]) -> Result<bool, AllocError>
 
 /// Whether each name is a word that may be one, and no two are the same.
 pub(crate) fn are_names(alloc: Global, names: &[Name]) -> Result<bool, NoMemory>
-    ensures { IfOk result (λ yes. IsTrue yes ↔ (All IsName names.now × AllPairs ◌≢◌ names.now)) }
+    ensures { IfOk result (λ yes. IsTrue yes ↔ AreNames names.now) }
 {
     if !names.iter().all(|name| is_name(name.bytes())) {
         return Ok(false);
