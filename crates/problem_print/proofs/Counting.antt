@@ -1,9 +1,10 @@
 -- Names that are known one after another: each is one of those before, or the next one.
-use Rattle.std.proofs.Common.{◌≡◌, ◌≢◌, ℕ, ◌+◌, ◌<◌, ◌≤◌, ◌==◌, Bool, true, false, cond, ◌||◌, nat_lt, List, [], ◌∷◌, ◌++◌, length, take, get_or, Some, None, refl, ap, sym, ◌∙◌, subst, arith}
+use Rattle.std.proofs.Common.{◌≡◌, ◌≢◌, ℕ, ◌+◌, ◌<◌, ◌≤◌, ◌==◌, Bool, true, false, cond, ◌||◌, nat_lt, List, [], ◌∷◌, ◌++◌, length, take, get_or, Option, Some, None, refl, ap, sym, ◌∙◌, subst, arith}
 use Rattle.std.specs.Prelude.{AllPairs}
 use Rattle.std.specs.List.{list_any, position_or_len}
 use Rattle.std.specs.Str.{bytes_eq}
 use Rattle.std.proofs.lemmas.Bool.Decides.{nat_tests}
+use Rattle.std.proofs.lemmas.Option.{none-some}
 use Rattle.std.proofs.lemmas.List.{get_or-take, get_or_default, length-take-le, take_more}
 use Rattle.std.proofs.lemmas.List.Folds.{list_any_at, list_any_none}
 use Rattle.std.proofs.lemmas.List.Sums.{position_or_len_is}
@@ -12,6 +13,7 @@ use Rattle.uts_lex.specs.Names.{number_of, with_name}
 use Rattle.kernel_parse.specs.Grammar.{Words}
 use Rattle.problem_print.specs.Printed.{name_text}
 use Rattle.problem_printable.specs.Numbering.{known_behind}
+use Rattle.problem_printable.specs.Known.{known_followed, known_broken}
 
 same_word : (a : List ℕ) → bytes_eq a a ≡ true
 same_word a = (bytes_eq-Decides a a).1 refl
@@ -101,32 +103,11 @@ pub record Between (k j : ℕ) (xs ys : List ℕ) : Type 0 where
   pub second : known_behind middle ys ≡ Some j
 
 pub between : (k j : ℕ) (xs ys : List ℕ) → known_behind k (xs ++ ys) ≡ Some j → Between k j xs ys
-between k j [] ys e = record { middle = k; first = refl; second = e }
-between k j (name ∷ xs) ys e = by (nat_lt name k) refl (between k j xs ys) (between (k + 1) j xs ys) e
+between k j xs ys e = by (known_behind k xs) refl
   where
-    by-new : (b : Bool) → nat_lt name k ≡ false → (name == k) ≡ b → (known_behind (k + 1) (xs ++ ys) ≡ Some j → Between (k + 1) j xs ys)
-        → cond b (known_behind (k + 1) (xs ++ ys)) None ≡ Some j → Between k j (name ∷ xs) ys
-    by-new true old is more e = let p = more e in record { middle = p.middle; first = rw (old, is) p.first; second = p.second }
-    by-new false old is more e = absurd cc
-
-    by : (b : Bool) → nat_lt name k ≡ b → (known_behind k (xs ++ ys) ≡ Some j → Between k j xs ys)
-        → (known_behind (k + 1) (xs ++ ys) ≡ Some j → Between (k + 1) j xs ys)
-        → cond b (known_behind k (xs ++ ys)) (cond (name == k) (known_behind (k + 1) (xs ++ ys)) None) ≡ Some j → Between k j (name ∷ xs) ys
-    by true is same more e = let p = same e in record { middle = p.middle; first = rw is p.first; second = p.second }
-    by false is same more e = by-new (name == k) is refl more e
+    by : (r : Option ℕ) → known_behind k xs ≡ r → Between k j xs ys
+    by None is = absurd (none-some j (sym (known_broken k xs ys is) ∙ e))
+    by (Some m) is = record { middle = m; first = is; second = sym (known_followed k xs ys m is) ∙ e }
 
 pub none_behind : (k j : ℕ) → known_behind k [] ≡ Some j → k ≡ j
 none_behind k j e = cc
-
-pub known_rises : (k j : ℕ) (xs : List ℕ) → known_behind k xs ≡ Some j → k ≤ j
-known_rises k j [] e = let same : k ≡ j = cc in omega arith
-known_rises k j (name ∷ xs) e = by (nat_lt name k) (known_rises k j xs) (known_rises (k + 1) j xs) e
-  where
-    by-new : (b : Bool) → (known_behind (k + 1) xs ≡ Some j → k + 1 ≤ j) → cond b (known_behind (k + 1) xs) None ≡ Some j → k ≤ j
-    by-new true more e = let h = more e in omega arith
-    by-new false more e = absurd cc
-
-    by : (b : Bool) → (known_behind k xs ≡ Some j → k ≤ j) → (known_behind (k + 1) xs ≡ Some j → k + 1 ≤ j)
-        → cond b (known_behind k xs) (cond (name == k) (known_behind (k + 1) xs) None) ≡ Some j → k ≤ j
-    by true same more e = same e
-    by false same more e = by-new (name == k) more e

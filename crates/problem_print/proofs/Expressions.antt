@@ -27,7 +27,8 @@ use Rattle.problem_printable.specs.Numbering.{names_over, expression_names, name
 use Rattle.problem_printable.specs.Printable.{is_offset, expression_fits, fits_at_form, AreNames}
 use Rattle.problem_print.specs.Printed.{name_text, store_text, read_text, infix_text, call_text, operation_text, text_over, expression_text}
 use Rattle.problem_print.proofs.Phrases.{TokensAreReadAgain, Reads, reads_nothing, reads_space, reads_both, reads_token, reads_sign, reads_one}
-use Rattle.problem_print.proofs.Counting.{between, known_rises}
+use Rattle.problem_print.proofs.Counting.{between}
+use Rattle.problem_printable.specs.Known.{known_grows}
 use Rattle.problem_print.proofs.Said.{Said, said_nameless, said_named, name_said}
 use Rattle.problem_print.proofs.Numerals.{said_offset, zero_offset, reads_number}
 
@@ -311,7 +312,7 @@ module _ (law : TokensAreReadAgain) (names : Words) (are : AreNames names) where
       let e = expr.Binary o a b in
       let parts = between k j (expression_names a) (expression_names b)
       (subst (λ (ns : List ℕ). known_behind k ns ≡ Some j) (names_at_form (Binary o a b) (expr.rolls-Binary o a b)) can.known) in
-      let rises = known_rises parts.middle j (expression_names b) parts.second in
+      let rises = known_grows parts.middle (expression_names b) j parts.second in
       let leaves = and_parts (are_leaves_in_form (length names) a) (are_leaves_in_form (length names) b) (sym (are_leaves_in_form-Binary (length names) o a b) ∙ can.leaves) in
       let fits = and_parts (expression_fits a) (expression_fits b) (sym (fits_at_form (Binary o a b) (expr.rolls-Binary o a b)) ∙ can.fits) in
       let first = below a r k parts.middle (omega (arith, deep, less)) (record {
@@ -360,8 +361,8 @@ module _ (law : TokensAreReadAgain) (names : Words) (are : AreNames names) where
       let parts = between k j (expression_names c) (expression_names a ++ expression_names b)
       (subst (λ (ns : List ℕ). known_behind k ns ≡ Some j) (names_at_form (Select c a b) (expr.rolls-Select c a b)) can.known) in
       let more = between parts.middle j (expression_names a) (expression_names b) parts.second in
-      let rises = known_rises more.middle j (expression_names b) more.second in
-      let rises' = known_rises parts.middle more.middle (expression_names a) more.first in
+      let rises = known_grows more.middle (expression_names b) j more.second in
+      let rises' = known_grows parts.middle (expression_names a) more.middle more.first in
       let leaf = are_leaves_in_form (length names) in
       let leaves = and_parts (leaf c && leaf a) (leaf b) (sym (are_leaves_in_form-Select (length names) c a b) ∙ can.leaves) in
       let leaves' = and_parts (leaf c) (leaf a) leaves.0 in

@@ -28,7 +28,8 @@ use Rattle.problem_printable.specs.Numbering.{expression_names, what_names, stat
 use Rattle.problem_printable.specs.Printable.{IsCorner, IsWhat, IsSayable, AreNames, expression_fits}
 use Rattle.problem_print.specs.Printed.{name_text, store_text, centring_text, fold_text, numbers_text, layers_of, what_text, target_text, statement_text}
 use Rattle.problem_print.proofs.Phrases.{TokensAreReadAgain, begins_anew, Reads, reads_nothing, reads_space, reads_both, reads_token, reads_one}
-use Rattle.problem_print.proofs.Counting.{named, between, known_rises}
+use Rattle.problem_print.proofs.Counting.{named, between}
+use Rattle.problem_printable.specs.Known.{known_grows}
 use Rattle.problem_print.proofs.Said.{Said, said_nameless, said_named, name_said}
 use Rattle.problem_print.proofs.Numerals.{is_signed, said_signed, reads_number}
 use Rattle.problem_print.proofs.Expressions.{store_lexeme, store_token, said, said_whole}
@@ -212,7 +213,7 @@ module _ (law : TokensAreReadAgain) where
     said_write k j kind name e form fits known within =
         let parts = between k j (name ∷ []) (expression_names e) known in
         let m = parts.middle in
-        let rises = known_rises m j (expression_names e) parts.second in
+        let rises = known_grows m (expression_names e) j parts.second in
         let inside : m ≤ length names = omega (arith, rises, within) in
         let n = named names are.distinct k m name parts.first inside in
         let w = name_text names name in

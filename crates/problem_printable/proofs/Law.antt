@@ -17,7 +17,7 @@ use Rattle.problem_printable.specs.Laws.{SpelledCanBePrinted}
 use Rattle.problem_printable.specs.Numbering.{statement_names}
 use Rattle.problem_printable.specs.Printable.{IsSayable}
 use Rattle.problem_printable.proofs.Ascent.{ascent_followed, increasing_where_some}
-use Rattle.problem_printable.proofs.Known.{known_grows}
+use Rattle.problem_printable.specs.Known.{known_grows}
 use Rattle.problem_printable.proofs.Naming.{Grows, grows_none, grows_both, no_names}
 use Rattle.problem_printable.proofs.SpelledNames.{AreSpelled}
 use Rattle.problem_printable.proofs.Statements.{SpelledInForm, statement_named, statement_sayable}

@@ -1,5 +1,4 @@
 pub mod Forms
-pub mod Known
 pub mod Naming
 pub mod Elements
 pub mod Places

@@ -13,7 +13,7 @@ use Rattle.uts_lex.specs.Names.{number_of, with_name}
 use Rattle.kernel_parse.specs.Grammar.{Words}
 use Rattle.problem_printable.specs.Numbering.{known_behind}
 use Rattle.problem_printable.specs.Printable.{IsName, AreNames}
-use Rattle.problem_printable.proofs.Known.{known_followed}
+use Rattle.problem_printable.specs.Known.{known_followed}
 
 pub no_names : AreNames []
 no_names = record { words = All-nil IsName; distinct = λ i j d lt within. absurd (omega arith) }
