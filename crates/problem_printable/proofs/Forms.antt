@@ -1,5 +1,5 @@
 -- The names of each form of expression, and whether its numbers have 64 bits.
-use Rattle.std.proofs.Common.{◌≡◌, ℕ, ◌^◌, ℤ, pos, Bool, true, ◌&&◌, List, [], ◌∷◌, ◌++◌}
+use Rattle.std.proofs.Common.{◌≡◌, ℕ, ◌^◌, ℤ, pos, true, ◌&&◌, [], ◌∷◌, ◌++◌}
 use Rattle.std.specs.Prelude.{int_lt}
 use Rattle.kernel_ast.specs.declared.expression.Store.{Store}
 use Rattle.kernel_ast.specs.declared.expression.Read.{Read}
