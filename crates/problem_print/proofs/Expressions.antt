@@ -7,7 +7,7 @@ use Rattle.uts_lex.specs.Lexemes.{Lexeme}
 use Rattle.uts_lex.specs.Names.{number_of, with_name}
 use Rattle.uts_lex.specs.Spelling.{IsWord, IsSign}
 use Rattle.kernel_ast.specs.Folds.{fold-at_form}
-use Rattle.kernel_ast.specs.Size.{depth_of, depth_over, depth_at_form, depth_of-Neg, depth_of-Binary, depth_of-Select}
+use Rattle.kernel_ast.specs.Size.{depth_of, depth_of-Neg, depth_of-Binary, depth_of-Select, depth_of_positive}
 use Rattle.kernel_ast.specs.Form.{are_leaves_in_form, is_fine, is_zero, is_read_in_form, are_leaves_in_form-Literal, are_leaves_in_form-Read, are_leaves_in_form-Neg, are_leaves_in_form-Binary, are_leaves_in_form-Select}
 use Rattle.kernel_ast.specs.declared.expression.Store.{Store}
 use Rattle.kernel_ast.specs.declared.expression.Store.TheVariants as store
@@ -37,23 +37,6 @@ use Rattle.problem_print.proofs.Numerals.{said_offset, zero_offset, reads_number
 pub text_at : (names : Words) {x : Expr} (d : Expr-F Expr) → roll-Expr d ≡ x → expression_text names x ≡ text_over names (map-Expr Expr (List ℕ) (expression_text names) d)
 unfolding expression_text
 text_at names d made = fold-at_form (text_over names) d made
-
-positive_over : (d : Expr-F ℕ) → 0 < depth_over d
-positive_over (Literal n) = omega arith
-positive_over X = omega arith
-positive_over Y = omega arith
-positive_over Z = omega arith
-positive_over Level = omega arith
-positive_over Material = omega arith
-positive_over Step = omega arith
-positive_over (Reading r) = omega arith
-positive_over (Number store name) = omega arith
-positive_over (Neg a) = omega arith
-positive_over (Binary o a b) = omega arith
-positive_over (Select c a b) = omega arith
-
-depth_positive : (e : Expr) → 0 < depth_of e
-depth_positive e = rw (depth_at_form (out-Expr e) (roll-out-Expr e)) (positive_over _)
 
 -- ---- what can be said, and what is said
 
@@ -306,7 +289,7 @@ module _ (law : TokensAreReadAgain) (names : Words) (are : AreNames names) where
 
   said_operation : (n : ℕ) → Below names n → (room k j : ℕ) (o : Op) (a b : Expr) → depth_of (expr.Binary o a b) < suc n
       → CanSay names room k j (expr.Binary o a b) → SaidIn names room k j (expr.Binary o a b)
-  said_operation n below zero k j o a b less can = absurd (omega (arith, depth_of-Binary o a b, can.shallow, depth_positive a))
+  said_operation n below zero k j o a b less can = absurd (omega (arith, depth_of-Binary o a b, can.shallow, depth_of_positive a))
   said_operation n below (suc r) k j o a b less can =
       let deep = depth_of-Binary o a b in
       let e = expr.Binary o a b in
@@ -354,7 +337,7 @@ module _ (law : TokensAreReadAgain) (names : Words) (are : AreNames names) where
 
   said_selection : (n : ℕ) → Below names n → (room k j : ℕ) (c a b : Expr) → depth_of (expr.Select c a b) < suc n
       → CanSay names room k j (expr.Select c a b) → SaidIn names room k j (expr.Select c a b)
-  said_selection n below zero k j c a b less can = absurd (omega (arith, depth_of-Select c a b, can.shallow, depth_positive a))
+  said_selection n below zero k j c a b less can = absurd (omega (arith, depth_of-Select c a b, can.shallow, depth_of_positive a))
   said_selection n below (suc r) k j c a b less can =
       let deep = depth_of-Select c a b in
       let e = expr.Select c a b in

@@ -3,9 +3,9 @@ ghost use Rattle.std.specs.Prelude.{◌≡◌, ◌≢◌, ◌↔◌, ◌∷◌, 
 ghost use Rattle.std.specs.List.{list_all};
 ghost use Rattle.uts_lex.specs.Lexemes.{is_word_byte};
 ghost use Rattle.uts_lex.specs.Spelling.{IsWord};
-ghost use Rattle.kernel_parse.specs.Signs.{is_reserved};
 ghost use Rattle.problem_printable.specs.Printable.{IsName, AreNames};
 
+use kernel_parse::is_reserved;
 use problem_types::{Name, NoMemory};
 use std::alloc::{AllocError, Global};
 use std::collections::BTreeSet;
@@ -36,18 +36,6 @@ fn is_word(bytes: &[u8]) -> bool
         None => false,
         Some((first, rest)) => is_word_of(*first, rest),
     }
-}
-
-// Whether the word has a meaning of its own where a name may stand.
-fn is_reserved(word: &[u8]) -> bool
-    ensures { result ≡ is_reserved word.now }
-{
-    word == b"coarse".as_slice()
-        || word == b"fine".as_slice()
-        || word == b"fine_sum".as_slice()
-        || word == b"fine_min".as_slice()
-        || word == b"fine_max".as_slice()
-        || word == b"fine_count".as_slice()
 }
 
 fn is_name(word: &[u8]) -> bool

@@ -1,8 +1,8 @@
 //! Problems that some text spells, and problems that none does.
 use crate::is_printable;
 use problem_file::parse;
-use problem_types::{Name, Problem};
-use sqlite_items::Items;
+use problem_types::{Expr, Name, Problem};
+use sqlite_items::{Boxed, Items};
 use std::alloc::Global;
 use std::test::Fail;
 
@@ -131,5 +131,29 @@ fn takes_no_patches(alloc: Global) -> Result<bool, Fail> {
 #[test]
 fn a_level_has_a_patch(rt: HostRuntime) -> Result<(), Fail> {
     assert!(rt; !takes_no_patches(rt.alloc())?);
+    Ok(())
+}
+
+// Whether the kernel of the first task may be the number of the step with so many minus signs before it.
+fn takes_minus_signs(alloc: Global, count: u32) -> Result<bool, Fail> {
+    let mut p = problem(alloc)?;
+    let mut kernel = Expr::Step;
+    for _so_far in 0..count {
+        kernel = Expr::Neg(Boxed::new(alloc, kernel)?);
+    }
+    if let Some(mut task) = p.init.pop() {
+        if let Some(mut write) = task.writes.pop() {
+            write.expr = kernel;
+            task.writes.push(write)?;
+        }
+        p.init.push(task)?;
+    }
+    Ok(is_printable(alloc, &p)?)
+}
+
+#[test]
+fn an_expression_is_at_most_64_deep(rt: HostRuntime) -> Result<(), Fail> {
+    assert!(rt; takes_minus_signs(rt.alloc(), 63)?);
+    assert!(rt; !takes_minus_signs(rt.alloc(), 64)?);
     Ok(())
 }
