@@ -2,8 +2,8 @@
 use Rattle.std.specs.Prelude.{Option, Some, None, codes, if◌then◌else◌}
 use Rattle.uts_lex.specs.Lexemes.{Lexeme}
 use Rattle.kernel_parse.specs.Signs.{is_word}
-use Rattle.problem_types.specs.declared.problem.Centring.{Centring}
-use Rattle.problem_types.specs.declared.problem.Centring.TheVariants as centring
+use Rattle.uts_geom.specs.declared.centring.Centring.{Centring}
+use Rattle.uts_geom.specs.declared.centring.Centring.TheVariants as centring
 use Rattle.problem_types.specs.declared.problem.Fold.{Fold}
 use Rattle.problem_types.specs.declared.problem.Fold.TheVariants as fold
 use Rattle.problem_types.specs.declared.problem.GhostKind.{GhostKind}
