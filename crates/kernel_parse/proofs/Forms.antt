@@ -6,20 +6,20 @@ use Rattle.std.specs.Str.{bytes_eq}
 use Rattle.std.proofs.lemmas.Bool.Decides.{nat_tests}
 use Rattle.std.proofs.lemmas.List.{length-append}
 use Rattle.std.proofs.lemmas.List.Sums.{prefix_len-le-length}
+use Rattle.uts_lex.specs.declared.token.Kind.TheVariants.{Word}
 use Rattle.uts_lex.specs.Lexemes.{Lexeme}
 use Rattle.uts_lex.specs.Names.{number_of, with_name}
 use Rattle.kernel_ast.specs.Form.{are_leaves_in_form, is_fine, IsWithin, IsExpressionInForm, are_leaves_in_form-Literal, are_leaves_in_form-X, are_leaves_in_form-Y, are_leaves_in_form-Z, are_leaves_in_form-Level, are_leaves_in_form-Material, are_leaves_in_form-Step, are_leaves_in_form-Read, are_leaves_in_form-Number, are_leaves_in_form-Neg, are_leaves_in_form-Binary, are_leaves_in_form-Select}
 use Rattle.kernel_ast.specs.declared.expression.Op.{Op}
 use Rattle.kernel_ast.specs.declared.expression.Expr.{Expr}
 use Rattle.kernel_ast.specs.declared.expression.Expr.TheVariants as expr
-use Rattle.kernel_parse.specs.Signs.{place_of}
+use Rattle.kernel_parse.specs.Signs.{place_words, place_of}
+use Rattle.kernel_parse.specs.Tables.{meaning_case}
 use Rattle.kernel_parse.specs.Grammar.{Words, SpellsRead, own, coarse, fine, reduction, Form, Spells, one_sum, compared, one_product, added, one_unary, multiplied, one_primary, negated, literal, place, read, grouped, called, selected, SpellsExpression}
-use Rattle.kernel_ast.specs.Size.{depth_of, node_count}
 use Rattle.kernel_parse.specs.Reading.{parsed, all_of}
 use Rattle.kernel_parse.specs.Source.{Extends}
 use Rattle.kernel_parse.specs.SourceLaws.{Extends_refl, Extends_trans, Extends_with_name, length_with_name}
 use Rattle.kernel_parse.proofs.Sound.{all_spelled}
-use Rattle.kernel_parse.proofs.Tables.{place_value}
 
 found_below : {X : Type 0} (p : X → Bool) (xs : List X) → list_any p xs ≡ true → prefix_len (λ x. not (p x)) xs < length xs
 found_below p [] e = absurd cc
@@ -67,8 +67,8 @@ read_in_form (reduction names at store name is_store free) =
     ((number_below names name).1, λ n le. are_leaves_in_form-Number n store _ ∙ name_in names name n le)
 
 place_in_form : (n : ℕ) (at : Lexeme) (e : Expr) → place_of at ≡ Some e → are_leaves_in_form n e ≡ true
-place_in_form n at e is = place_value at e is (λ e. are_leaves_in_form n e ≡ true)
-    (are_leaves_in_form-X n) (are_leaves_in_form-Y n) (are_leaves_in_form-Z n) (are_leaves_in_form-Level n) (are_leaves_in_form-Material n) (are_leaves_in_form-Step n)
+place_in_form n at e is = meaning_case Word (λ (t : Lexeme) (e : Expr). are_leaves_in_form n e ≡ true) place_words at e is
+    (are_leaves_in_form-X n, (are_leaves_in_form-Y n, (are_leaves_in_form-Z n, (are_leaves_in_form-Level n, (are_leaves_in_form-Material n, (are_leaves_in_form-Step n, tt))))))
 
 binary_in_form : (names between after : Words) (op : Op) (a b : Expr) → InForm names a between → InForm between b after → InForm names (expr.Binary op a b) after
 binary_in_form names between after op a b f g =
@@ -97,15 +97,13 @@ spelled_in_form (selected room ts us vs names one two after c a b s t u) =
     let h = spelled_in_form u in
     (omega (arith, f.0, g.0, h.0), λ n le. are_leaves_in_form-Select n c a b ∙ both_true _ _ (both_true _ _ (f.1 n (omega (arith, g.0, h.0))) (g.1 n (omega (arith, h.0)))) (h.1 n le))
 
--- what all of the tokens are read as is in form, where it is within the limits
-pub all_in_form : (names after : Words) (ts : List Lexeme) (e : Expr) → all_of names ts ≡ Some (parsed e after []) → depth_of e ≤ 64 → node_count e ≤ 256
-    → IsWithin (length after) 64 256 e
-all_in_form names after ts e is shallow few =
-    record { shallow = shallow; few_nodes = few; leaves = (spelled_in_form (all_spelled names after ts e is)).1 (length after) (omega arith) }
-
 pub expression_in_form : (ts : List Lexeme) (names after : Words) (e : Expr) (known : ℕ) → SpellsExpression ts names e after → length after ≤ known → IsExpressionInForm known e
 expression_in_form ts names after e known s within =
     record { shallow = s.shallow; few_nodes = s.few_nodes; leaves = (spelled_in_form s.spelled).1 known within }
+
+-- so is what all of the tokens are read as
+pub all_in_form : (names after : Words) (ts : List Lexeme) (e : Expr) → all_of names ts ≡ Some (parsed e after []) → IsWithin (length after) 64 256 e
+all_in_form names after ts e is = expression_in_form ts names after e (length after) (all_spelled names after ts e is) (omega arith)
 
 -- ---- the words behind
 

@@ -7,3 +7,4 @@ pub mod Again
 pub mod Ends
 pub mod Complete
 pub mod Forms
+pub mod Judged

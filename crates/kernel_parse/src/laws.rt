@@ -4,6 +4,7 @@ ghost use Rattle.uts_lex.specs.Lexemes.{Lexeme};
 ghost use Rattle.kernel_ast.specs.declared.expression.Expr.{Expr};
 ghost use Rattle.kernel_ast.specs.Form.{IsExpressionInForm};
 ghost use Rattle.kernel_parse.specs.Grammar.{Words, SpellsExpression};
+ghost use Rattle.kernel_parse.specs.Laws.{ExpressionsAreJudged};
 ghost use Rattle.kernel_parse.specs.Source.{Extends};
 
 /// Tokens are one expression at most, and name the same words.
@@ -26,4 +27,9 @@ pub fn spelled_in_form()
 pub fn few_new_words()
     ensures { (tokens : List Lexeme) (names after : Words) (e : Expr) → SpellsExpression tokens names e after
         → Extends names after × (length after ≤ length names + length tokens) }
+{}
+
+/// Tokens are some expression, or they are none.
+pub fn expressions_are_judged()
+    ensures { ExpressionsAreJudged }
 {}
