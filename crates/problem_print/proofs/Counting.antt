@@ -1,38 +1,18 @@
 -- Names that are known one after another: each is one of those before, or the next one.
-use Rattle.std.proofs.Common.{◌≡◌, ◌≢◌, ℕ, ◌+◌, ◌<◌, ◌≤◌, ◌==◌, Bool, true, false, cond, ◌||◌, nat_lt, List, [], ◌∷◌, ◌++◌, length, take, get_or, Some, None, refl, ap, sym, ◌∙◌, subst, arith}
-use Rattle.std.specs.Prelude.{AllPairs, All}
-use Rattle.std.specs.List.{list_any, position_or_len}
+use Rattle.std.proofs.Common.{◌≡◌, ◌≢◌, ℕ, ◌+◌, ◌<◌, ◌≤◌, ◌==◌, Bool, true, false, cond, nat_lt, List, [], ◌∷◌, ◌++◌, length, take, get_or, Option, Some, None, refl, ap, sym, ◌∙◌, arith}
+use Rattle.std.specs.Prelude.{AllPairs}
 use Rattle.std.specs.Str.{bytes_eq}
 use Rattle.std.proofs.lemmas.Bool.Decides.{nat_tests}
-use Rattle.std.proofs.lemmas.List.{get_or-take, length-take-le, take_more}
+use Rattle.std.proofs.lemmas.Option.{none-some}
+use Rattle.std.proofs.lemmas.List.{get_or-take, get_or_default, length-take-le, take_more}
+use Rattle.std.proofs.lemmas.List.Folds.{list_any_at, list_any_none}
 use Rattle.std.proofs.lemmas.List.Sums.{position_or_len_is}
 use Rattle.std.proofs.lemmas.Slice.Eq.{bytes_eq-Decides}
 use Rattle.uts_lex.specs.Names.{number_of, with_name}
 use Rattle.kernel_parse.specs.Grammar.{Words}
 use Rattle.problem_print.specs.Printed.{name_text}
 use Rattle.problem_printable.specs.Numbering.{known_behind}
-use Rattle.problem_printable.specs.Printable.{IsName}
-
--- distinct words that may be names
-pub record AreNames (names : Words) : Type 0 where
-  pub words : All IsName names
-  pub distinct : AllPairs ◌≢◌ names
-
-found : (p : List ℕ → Bool) (words : Words) → position_or_len p words < length words → list_any p words ≡ true
-found p [] h = absurd (omega arith)
-found p (word ∷ words) h = by (p word) refl (found p words)
-  where
-    by : (b : Bool) → p word ≡ b → (position_or_len p words < length words → list_any p words ≡ true) → (b || list_any p words) ≡ true
-    by true e more = refl
-    by false e more = more (let h' = rw e at h in omega (arith, h'))
-
-not_found : (p : List ℕ → Bool) (words : Words) → position_or_len p words ≡ length words → list_any p words ≡ false
-not_found p [] h = refl
-not_found p (word ∷ words) h = by (p word) refl (not_found p words)
-  where
-    by : (b : Bool) → p word ≡ b → (position_or_len p words ≡ length words → list_any p words ≡ false) → (b || list_any p words) ≡ false
-    by true e more = absurd (let h' = rw e at h in omega (arith, h'))
-    by false e more = more (let h' = rw e at h in omega (arith, h'))
+use Rattle.problem_printable.specs.Known.{known_followed, known_broken}
 
 same_word : (a : List ℕ) → bytes_eq a a ≡ true
 same_word a = (bytes_eq-Decides a a).1 refl
@@ -45,24 +25,27 @@ other_word a b differ = by (bytes_eq a b) refl
     by false e = refl
 
 module _ (names : Words) (distinct : AllPairs ◌≢◌ names) where
+  -- a word is none of those before it
+  before : (k name m : ℕ) (d : List ℕ) → name < length names → m < name → m < k → bytes_eq (get_or names name []) (get_or (take k names) m d) ≡ false
+  before k name m d within earlier inside =
+      rw (get_or-take k names m d inside, get_or_default names name [] d within)
+      (other_word (get_or names name d) (get_or names m d) (λ e. distinct m name d earlier within (sym e)))
+
   -- where a word stands among the first ones
+  here : (k name : ℕ) → name < k → bytes_eq (get_or names name []) (get_or (take k names) name []) ≡ true
+  here k name below = rw (get_or-take k names name [] below) (same_word (get_or names name []))
+
   known : (k name : ℕ) → name < k → k ≤ length names → number_of (take k names) (get_or names name []) ≡ name
   known k name below within =
       let size : length (take k names) ≡ k = length-take-le k names within in
-      let word = get_or names name [] in
-      position_or_len_is (bytes_eq word) (take k names) name [] (omega (arith, size))
-      (λ m before. subst (λ (w : List ℕ). bytes_eq word w ≡ false) (sym (get_or-take k names m [] (omega arith)))
-      (other_word word (get_or names m []) (λ e. distinct m name [] before (omega arith) (sym e))))
-      (λ inside. subst (λ (w : List ℕ). bytes_eq word w ≡ true) (sym (get_or-take k names name [] below)) (same_word word))
+      position_or_len_is (bytes_eq (get_or names name [])) (take k names) name [] (omega (arith, size))
+      (λ m earlier. before k name m [] (omega arith) earlier (omega arith)) (λ inside. here k name below)
 
   new : (k : ℕ) → k < length names → number_of (take k names) (get_or names k []) ≡ k
   new k within =
       let size : length (take k names) ≡ k = length-take-le k names (omega arith) in
-      let word = get_or names k [] in
-      position_or_len_is (bytes_eq word) (take k names) k [] (omega (arith, size))
-      (λ m before. subst (λ (w : List ℕ). bytes_eq word w ≡ false) (sym (get_or-take k names m [] before))
-      (other_word word (get_or names m []) (λ e. distinct m k [] before within (sym e))))
-      (λ inside. absurd (omega (arith, size, inside)))
+      position_or_len_is (bytes_eq (get_or names k [])) (take k names) k [] (omega (arith, size))
+      (λ m earlier. before k k m [] within earlier earlier) (λ inside. absurd (omega (arith, size, inside)))
 
   -- what is known behind one name, of which so many are known before
   pub record Named (k j name : ℕ) : Type 0 where
@@ -83,7 +66,9 @@ module _ (names : Words) (distinct : AllPairs ◌≢◌ names) where
           let next : k + 1 ≡ j = cc in
           let inside : k < length names = omega arith in
           let place = new k inside in
-          let none = not_found (bytes_eq (get_or names k [])) (take k names) (place ∙ sym (size (omega arith))) in
+          let many = size (omega arith) in
+          let none = list_any_none (bytes_eq (get_or names k [])) (take k names)
+          (λ m d there. let earlier : m < k = omega (arith, many) in before k k m d inside earlier earlier) in
           let with : with_name (take k names) (get_or names k []) ≡ take j names = rw none (sym (take_more names k [] inside) ∙ ap (λ (n : ℕ). take n names) next) in
           record {
             below = omega arith;
@@ -99,7 +84,7 @@ module _ (names : Words) (distinct : AllPairs ◌≢◌ names) where
           let same : k ≡ j = cc in
           let inside : k ≤ length names = omega arith in
           let place = known k name below inside in
-          let some = found (bytes_eq (get_or names name [])) (take k names) (omega (arith, place, size inside)) in
+          let some = list_any_at (bytes_eq (get_or names name [])) (take k names) name [] (omega (arith, size inside)) (here k name below) in
           record {
             below = omega arith;
             rises = omega arith;
@@ -117,32 +102,11 @@ pub record Between (k j : ℕ) (xs ys : List ℕ) : Type 0 where
   pub second : known_behind middle ys ≡ Some j
 
 pub between : (k j : ℕ) (xs ys : List ℕ) → known_behind k (xs ++ ys) ≡ Some j → Between k j xs ys
-between k j [] ys e = record { middle = k; first = refl; second = e }
-between k j (name ∷ xs) ys e = by (nat_lt name k) refl (between k j xs ys) (between (k + 1) j xs ys) e
+between k j xs ys e = by (known_behind k xs) refl
   where
-    by-new : (b : Bool) → nat_lt name k ≡ false → (name == k) ≡ b → (known_behind (k + 1) (xs ++ ys) ≡ Some j → Between (k + 1) j xs ys)
-        → cond b (known_behind (k + 1) (xs ++ ys)) None ≡ Some j → Between k j (name ∷ xs) ys
-    by-new true old is more e = let p = more e in record { middle = p.middle; first = rw (old, is) p.first; second = p.second }
-    by-new false old is more e = absurd cc
-
-    by : (b : Bool) → nat_lt name k ≡ b → (known_behind k (xs ++ ys) ≡ Some j → Between k j xs ys)
-        → (known_behind (k + 1) (xs ++ ys) ≡ Some j → Between (k + 1) j xs ys)
-        → cond b (known_behind k (xs ++ ys)) (cond (name == k) (known_behind (k + 1) (xs ++ ys)) None) ≡ Some j → Between k j (name ∷ xs) ys
-    by true is same more e = let p = same e in record { middle = p.middle; first = rw is p.first; second = p.second }
-    by false is same more e = by-new (name == k) is refl more e
+    by : (r : Option ℕ) → known_behind k xs ≡ r → Between k j xs ys
+    by None is = absurd (none-some j (sym (known_broken k xs ys is) ∙ e))
+    by (Some m) is = record { middle = m; first = is; second = sym (known_followed k xs ys m is) ∙ e }
 
 pub none_behind : (k j : ℕ) → known_behind k [] ≡ Some j → k ≡ j
 none_behind k j e = cc
-
-pub known_rises : (k j : ℕ) (xs : List ℕ) → known_behind k xs ≡ Some j → k ≤ j
-known_rises k j [] e = let same : k ≡ j = cc in omega arith
-known_rises k j (name ∷ xs) e = by (nat_lt name k) (known_rises k j xs) (known_rises (k + 1) j xs) e
-  where
-    by-new : (b : Bool) → (known_behind (k + 1) xs ≡ Some j → k + 1 ≤ j) → cond b (known_behind (k + 1) xs) None ≡ Some j → k ≤ j
-    by-new true more e = let h = more e in omega arith
-    by-new false more e = absurd cc
-
-    by : (b : Bool) → (known_behind k xs ≡ Some j → k ≤ j) → (known_behind (k + 1) xs ≡ Some j → k + 1 ≤ j)
-        → cond b (known_behind k xs) (cond (name == k) (known_behind (k + 1) xs) None) ≡ Some j → k ≤ j
-    by true same more e = same e
-    by false same more e = by-new (name == k) more e

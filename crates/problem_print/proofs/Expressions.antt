@@ -7,7 +7,7 @@ use Rattle.uts_lex.specs.Lexemes.{Lexeme}
 use Rattle.uts_lex.specs.Names.{number_of, with_name}
 use Rattle.uts_lex.specs.Spelling.{IsWord, IsSign}
 use Rattle.kernel_ast.specs.Folds.{fold-at_form}
-use Rattle.kernel_ast.specs.Size.{depth_of, depth_over, depth_at_form, depth_of-Neg, depth_of-Binary, depth_of-Select}
+use Rattle.kernel_ast.specs.Size.{depth_of, depth_of-Neg, depth_of-Binary, depth_of-Select, depth_of_positive}
 use Rattle.kernel_ast.specs.Form.{are_leaves_in_form, is_fine, is_zero, is_read_in_form, are_leaves_in_form-Literal, are_leaves_in_form-Read, are_leaves_in_form-Neg, are_leaves_in_form-Binary, are_leaves_in_form-Select}
 use Rattle.kernel_ast.specs.declared.expression.Store.{Store}
 use Rattle.kernel_ast.specs.declared.expression.Store.TheVariants as store
@@ -23,11 +23,13 @@ use Rattle.kernel_ast.specs.declared.expression.Expr.TheViews.{roll-Expr, out-Ex
 use Rattle.kernel_ast.specs.declared.expression.Expr.TheFolds.{map-Expr}
 use Rattle.kernel_parse.specs.Signs.{word, number, sign, comparison_of, term_op_of, factor_op_of, call_of, place_of, store_of, fine_of}
 use Rattle.kernel_parse.specs.Grammar.{Words, SpellsRead, own, coarse, fine, reduction, whole, sum, product, unary, Spells, one_sum, compared, one_product, added, one_unary, multiplied, one_primary, negated, literal, place, read, grouped, called, selected}
-use Rattle.problem_printable.specs.Numbering.{names_over, expression_names, known_behind}
-use Rattle.problem_printable.specs.Printable.{is_offset, fits_over, expression_fits, IsName}
+use Rattle.problem_printable.specs.Numbering.{names_over, expression_names, names_at_form, known_behind}
+use Rattle.problem_printable.specs.Printable.{is_offset, expression_fits, fits_at_form, AreNames}
 use Rattle.problem_print.specs.Printed.{name_text, store_text, read_text, infix_text, call_text, operation_text, text_over, expression_text}
 use Rattle.problem_print.proofs.Phrases.{TokensAreReadAgain, Reads, reads_nothing, reads_space, reads_both, reads_token, reads_sign, reads_one}
-use Rattle.problem_print.proofs.Counting.{AreNames, Named, named, between, none_behind, known_rises}
+use Rattle.problem_print.proofs.Counting.{between}
+use Rattle.problem_printable.specs.Known.{known_grows}
+use Rattle.problem_print.proofs.Said.{Said, said_nameless, said_named, name_said}
 use Rattle.problem_print.proofs.Numerals.{said_offset, zero_offset, reads_number}
 
 -- ---- folds at a form
@@ -35,31 +37,6 @@ use Rattle.problem_print.proofs.Numerals.{said_offset, zero_offset, reads_number
 pub text_at : (names : Words) {x : Expr} (d : Expr-F Expr) → roll-Expr d ≡ x → expression_text names x ≡ text_over names (map-Expr Expr (List ℕ) (expression_text names) d)
 unfolding expression_text
 text_at names d made = fold-at_form (text_over names) d made
-
-names_at : {x : Expr} (d : Expr-F Expr) → roll-Expr d ≡ x → expression_names x ≡ names_over (map-Expr Expr (List ℕ) expression_names d)
-unfolding expression_names
-names_at d made = fold-at_form names_over d made
-
-fits_at : {x : Expr} (d : Expr-F Expr) → roll-Expr d ≡ x → expression_fits x ≡ fits_over (map-Expr Expr Bool expression_fits d)
-unfolding expression_fits
-fits_at d made = fold-at_form fits_over d made
-
-positive_over : (d : Expr-F ℕ) → 0 < depth_over d
-positive_over (Literal n) = omega arith
-positive_over X = omega arith
-positive_over Y = omega arith
-positive_over Z = omega arith
-positive_over Level = omega arith
-positive_over Material = omega arith
-positive_over Step = omega arith
-positive_over (Reading r) = omega arith
-positive_over (Number store name) = omega arith
-positive_over (Neg a) = omega arith
-positive_over (Binary o a b) = omega arith
-positive_over (Select c a b) = omega arith
-
-depth_positive : (e : Expr) → 0 < depth_of e
-depth_positive e = rw (depth_at_form (out-Expr e) (roll-out-Expr e)) (positive_over _)
 
 -- ---- what can be said, and what is said
 
@@ -71,18 +48,16 @@ pub record CanSay (names : Words) (room k j : ℕ) (e : Expr) : Type 0 where
   pub known : known_behind k (expression_names e) ≡ Some j
   pub within : j ≤ length names
 
--- the text is read as tokens that spell the expression
-pub record SaidBy (names : Words) (room k j : ℕ) (text : List ℕ) (e : Expr) : Type 0 where
-  pub tokens : List Lexeme
-  pub reads : Reads text tokens
-  pub spelled : Spells unary room tokens (take k names) e (take j names)
+-- the expression in its printed form, or in this text
+abbrev pub SaidBy : Words → (room k j : ℕ) → List ℕ → Expr → Type 0
+SaidBy names room k j text e = Said (Spells unary room) names k j text e
 
-abbrev pub Said : Words → (room k j : ℕ) → Expr → Type 0
-Said names room k j e = SaidBy names room k j (expression_text names e) e
+abbrev pub SaidIn : Words → (room k j : ℕ) → Expr → Type 0
+SaidIn names room k j e = SaidBy names room k j (expression_text names e) e
 
 -- each expression of fewer levels is said
 abbrev Below : Words → ℕ → Type 0
-Below names n = (e : Expr) (room k j : ℕ) → depth_of e < n → CanSay names room k j e → Said names room k j e
+Below names n = (e : Expr) (room k j : ℕ) → depth_of e < n → CanSay names room k j e → SaidIn names room k j e
 
 -- ---- words
 
@@ -97,154 +72,137 @@ store_token store.New = refl
 -- ---- leaves
 
 module _ (law : TokensAreReadAgain) (names : Words) (are : AreNames names) where
-  said_leaf : (room k j : ℕ) (e : Expr) (text : List ℕ) (ts : List Lexeme) → expression_text names e ≡ text → Reads text ts → expression_names e ≡ []
-      → Spells unary room ts (take k names) e (take k names) → CanSay names room k j e → Said names room k j e
-  said_leaf room k j e text ts is reads none spelled can =
-      let same : k ≡ j = none_behind k j (subst (λ (ns : List ℕ). known_behind k ns ≡ Some j) none can.known) in
-      record {
-        tokens = ts;
-        reads = subst (λ (t : List ℕ). Reads t ts) (sym is) reads;
-        spelled = subst (λ (n : ℕ). Spells unary room ts (take k names) e (take n names)) same spelled;
-      }
+  -- what has no parts, by its text and its names
+  said_leaf : (room k j : ℕ) (e : Expr) (text : List ℕ) (ts : List Lexeme) → expression_text names e ≡ text → expression_names e ≡ [] → Reads text ts
+      → Spells unary room ts (take k names) e (take k names) → CanSay names room k j e → SaidIn names room k j e
+  said_leaf room k j e text ts is none reads spelled can =
+      subst (λ (t : List ℕ). SaidBy names room k j t e) (sym is)
+      (said_nameless (Spells unary room) names k j text e ts (subst (λ (ns : List ℕ). known_behind k ns ≡ Some j) none can.known) reads spelled)
 
   said_place : (room k j : ℕ) (e : Expr) (at : List ℕ) → place_of (word at) ≡ Some e → IsWord at → expression_text names e ≡ at → expression_names e ≡ []
-      → CanSay names room k j e → Said names room k j e
-  said_place room k j e at is lexeme text none can =
-      said_leaf room k j e at (word at ∷ []) text (reads_one law (word at) lexeme) none
-      (one_primary room (word at ∷ []) (take k names) (take k names) e (place room (take k names) (word at) e is)) can
+      → CanSay names room k j e → SaidIn names room k j e
+  said_place room k j e at is lexeme text none =
+      said_leaf room k j e at (word at ∷ []) text none (reads_one law (word at) lexeme)
+      (one_primary room (word at ∷ []) (take k names) (take k names) e (place room (take k names) (word at) e is))
 
-  said_natural : (room k j n : ℕ) → CanSay names room k j (expr.Literal (pos n)) → Said names room k j (expr.Literal (pos n))
+  said_natural : (room k j n : ℕ) → CanSay names room k j (expr.Literal (pos n)) → SaidIn names room k j (expr.Literal (pos n))
   said_natural room k j n can =
-      let test : int_lt (pos n) (pos (2 ^ 63)) ≡ true = sym (fits_at (Literal (pos n)) (expr.rolls-Literal (pos n))) ∙ can.fits in
+      let test : int_lt (pos n) (pos (2 ^ 63)) ≡ true = sym (fits_at_form (Literal (pos n)) (expr.rolls-Literal (pos n))) ∙ can.fits in
       let small : n < 2 ^ 63 = grind (arith, nat_tests, test) in
       said_leaf room k j (expr.Literal (pos n)) (decimal n) (number n ∷ []) (text_at names (Literal (pos n)) (expr.rolls-Literal (pos n)))
-      (reads_number law n (omega arith)) (names_at (Literal (pos n)) (expr.rolls-Literal (pos n)))
+      (names_at_form (Literal (pos n)) (expr.rolls-Literal (pos n))) (reads_number law n (omega arith))
       (one_primary room (number n ∷ []) (take k names) (take k names) (expr.Literal (pos n)) (literal room (take k names) n small)) can
 
   not_negative : (n : ℕ) → int_le (pos 0) (negsuc n) ≡ true → ⊥
   not_negative n e = grind (arith, nat_tests, e)
 
-  said_literal : (room k j : ℕ) (n : ℤ) → CanSay names room k j (expr.Literal n) → Said names room k j (expr.Literal n)
+  said_literal : (room k j : ℕ) (n : ℤ) → CanSay names room k j (expr.Literal n) → SaidIn names room k j (expr.Literal n)
   said_literal room k j (pos n) can = said_natural room k j n can
   said_literal room k j (negsuc n) can = absurd (not_negative n (sym (are_leaves_in_form-Literal (length names) (negsuc n)) ∙ can.leaves))
 
   -- ---- reads
 
-  -- a read of a name, with the number that the name has
-  settle : (room k j name : ℕ) (f : ℕ → Expr) (ts : List Lexeme) → Named names are.distinct k j name
-      → SpellsRead ts (take k names) (f (number_of (take k names) (name_text names name))) (with_name (take k names) (name_text names name))
-      → Spells unary room ts (take k names) (f name) (take j names)
-  settle room k j name f ts n spelled =
-      let numbered = subst (λ (m : ℕ). SpellsRead ts (take k names) (f m) (with_name (take k names) (name_text names name))) n.number spelled in
-      let spells = subst (λ (after : Words). SpellsRead ts (take k names) (f name) after) n.words numbered in
-      one_primary room ts (take k names) (take j names) (f name) (read room ts (take k names) (take j names) (f name) spells)
-
   abbrev looks : Store → How → ℕ → List ℤ → Read
   looks s h name by = record { store = s; how = h; name = name; offset = by }
 
-  read_name : (room k j : ℕ) (r : Read) → CanSay names room k j (expr.Read r) → Named names are.distinct k j r.name
-  read_name room k j r can =
-      named names are.distinct k j r.name (subst (λ (ns : List ℕ). known_behind k ns ≡ Some j) (names_at (Reading r) (expr.rolls-Read r)) can.known) can.within
+  -- what can be said of a read of the next or a known name
+  record CanRead (k j : ℕ) (r : Read) : Type 0 where
+    known : known_behind k (r.name ∷ []) ≡ Some j
+    within : j ≤ length names
+    fits : is_offset r.offset ≡ true
+    form : is_read_in_form (length names) r ≡ true
 
-  name_in : (room k j name : ℕ) (e : Expr) → CanSay names room k j e → Named names are.distinct k j name → IsName (name_text names name)
-  name_in room k j name e can n = are.words name [] (omega (arith, n.below, can.within))
+  abbrev SaidRead : ℕ → ℕ → Read → Type 0
+  SaidRead k j r = Said SpellsRead names k j (read_text names r) (expr.Read r)
 
-  read_fits : (room k j : ℕ) (r : Read) → CanSay names room k j (expr.Read r) → is_offset r.offset ≡ true
-  read_fits room k j r can = sym (fits_at (Reading r) (expr.rolls-Read r)) ∙ can.fits
+  can_read : (room k j : ℕ) (r : Read) → CanSay names room k j (expr.Read r) → CanRead k j r
+  can_read room k j r can = record {
+    known = subst (λ (ns : List ℕ). known_behind k ns ≡ Some j) (names_at_form (Reading r) (expr.rolls-Read r)) can.known;
+    within = can.within;
+    fits = sym (fits_at_form (Reading r) (expr.rolls-Read r)) ∙ can.fits;
+    form = sym (are_leaves_in_form-Read (length names) r) ∙ can.leaves;
+  }
 
-  said_own : (room k j : ℕ) (s : Store) (name : ℕ) (by : List ℤ) → CanSay names room k j (expr.Read (looks s how.Same name by))
-      → Said names room k j (expr.Read (looks s how.Same name by))
-  said_own room k j s name by can =
-      let r = looks s how.Same name by in
-      let n = read_name room k j r can in
+  said_own : (k j : ℕ) (s : Store) (name : ℕ) (by : List ℤ) → CanRead k j (looks s how.Same name by) → SaidRead k j (looks s how.Same name by)
+  said_own k j s name by can =
       let w = name_text names name in
-      let is = name_in room k j name (expr.Read r) can n in
-      let o = said_offset law by (read_fits room k j r can) in
-      let ts : List Lexeme = word (store_text s) ∷ sign (codes ".") ∷ word w ∷ o.tokens in
-      record {
-        tokens = ts;
-        reads = subst (λ (t : List ℕ). Reads t ts) (sym (text_at names (Reading r) (expr.rolls-Read r)))
-            (reads_token law (word (store_text s)) (store_lexeme s) refl (reads_sign law 46 refl refl (reads_token law (word w) is.0 refl o.reads)));
-        spelled = settle room k j name (λ m. expr.Read (looks s how.Same m by)) ts n
-            (own (take k names) (word (store_text s)) s w o.tokens by (store_token s) is.1 o.spelled);
-      }
+      let is = name_said names are k j name can.known can.within in
+      let o = said_offset law by can.fits in
+      said_named SpellsRead names are k j name (read_text names (looks s how.Same name by)) (λ m. expr.Read (looks s how.Same m by))
+      (word (store_text s) ∷ sign (codes ".") ∷ word w ∷ o.tokens) can.known can.within
+      (reads_token law (word (store_text s)) (store_lexeme s) refl (reads_sign law 46 refl refl (reads_token law (word w) is.0 refl o.reads)))
+      (own (take k names) (word (store_text s)) s w o.tokens by (store_token s) is.1 o.spelled)
 
-  said_coarse : (room k j : ℕ) (s : Store) (name : ℕ) (by : List ℤ) → CanSay names room k j (expr.Read (looks s how.Coarse name by))
-      → Said names room k j (expr.Read (looks s how.Coarse name by))
-  said_coarse room k j s name by can =
-      let r = looks s how.Coarse name by in
-      let n = read_name room k j r can in
+  said_coarse : (k j : ℕ) (s : Store) (name : ℕ) (by : List ℤ) → CanRead k j (looks s how.Coarse name by) → SaidRead k j (looks s how.Coarse name by)
+  said_coarse k j s name by can =
       let w = name_text names name in
-      let is = name_in room k j name (expr.Read r) can n in
-      let o = said_offset law by (read_fits room k j r can) in
-      let ts : List Lexeme = word (store_text s) ∷ sign (codes ".") ∷ word (codes "coarse") ∷ sign (codes ".") ∷ word w ∷ o.tokens in
-      record {
-        tokens = ts;
-        reads = subst (λ (t : List ℕ). Reads t ts) (sym (text_at names (Reading r) (expr.rolls-Read r)))
-            (reads_token law (word (store_text s)) (store_lexeme s) refl (reads_sign law 46 refl refl
-            (reads_token law (word (codes "coarse")) (refl, refl, omega arith) refl (reads_sign law 46 refl refl (reads_token law (word w) is.0 refl o.reads)))));
-        spelled = settle room k j name (λ m. expr.Read (looks s how.Coarse m by)) ts n
-            (coarse (take k names) (word (store_text s)) s w o.tokens by (store_token s) is.1 o.spelled);
-      }
+      let is = name_said names are k j name can.known can.within in
+      let o = said_offset law by can.fits in
+      said_named SpellsRead names are k j name (read_text names (looks s how.Coarse name by)) (λ m. expr.Read (looks s how.Coarse m by))
+      (word (store_text s) ∷ sign (codes ".") ∷ word (codes "coarse") ∷ sign (codes ".") ∷ word w ∷ o.tokens) can.known can.within
+      (reads_token law (word (store_text s)) (store_lexeme s) refl (reads_sign law 46 refl refl
+      (reads_token law (word (codes "coarse")) (refl, refl, omega arith) refl (reads_sign law 46 refl refl (reads_token law (word w) is.0 refl o.reads)))))
+      (coarse (take k names) (word (store_text s)) s w o.tokens by (store_token s) is.1 o.spelled)
 
-  fine_offset : (room k j : ℕ) (r : Read) → is_fine r.how ≡ true → CanSay names room k j (expr.Read r) → r.offset ≡ pos 0 ∷ pos 0 ∷ pos 0 ∷ []
-  fine_offset room k j r is can =
-      let form : is_read_in_form (length names) r ≡ true = sym (are_leaves_in_form-Read (length names) r) ∙ can.leaves in
-      let offset = (and_parts (nat_lt r.name (length names)) (not (is_fine r.how) || is_zero r.offset) form).1 in
-      zero_offset r.offset (read_fits room k j r can) (subst (λ (b : Bool). (not b || is_zero r.offset) ≡ true) is offset)
-
-  said_fine : (room k j : ℕ) (s : Store) (h : How) (at : List ℕ) (name : ℕ) (by : List ℤ) → is_fine h ≡ true → fine_of (word at) ≡ Some h → IsWord at
+  said_fine : (k j : ℕ) (s : Store) (h : How) (at : List ℕ) (name : ℕ) (by : List ℤ) → is_fine h ≡ true → fine_of (word at) ≡ Some h → IsWord at
       → read_text names (looks s h name by) ≡ store_text s ++ (46 ∷ (at ++ (46 ∷ name_text names name)))
-      → CanSay names room k j (expr.Read (looks s h name by)) → Said names room k j (expr.Read (looks s h name by))
-  said_fine room k j s h at name by is_fine_how is_at lexeme text can =
-      let r = looks s h name by in
-      let n = read_name room k j r can in
+      → CanRead k j (looks s h name by) → SaidRead k j (looks s h name by)
+  said_fine k j s h at name by fine_how is_at lexeme text can =
       let w = name_text names name in
-      let is = name_in room k j name (expr.Read r) can n in
+      let is = name_said names are k j name can.known can.within in
       let ts : List Lexeme = word (store_text s) ∷ sign (codes ".") ∷ word at ∷ sign (codes ".") ∷ word w ∷ [] in
-      let zero = fine_offset room k j r is_fine_how can in
-      record {
-        tokens = ts;
-        reads = subst (λ (t : List ℕ). Reads t ts) (sym (text_at names (Reading r) (expr.rolls-Read r) ∙ text))
-            (reads_token law (word (store_text s)) (store_lexeme s) refl (reads_sign law 46 refl refl
-            (reads_token law (word at) lexeme refl (reads_sign law 46 refl refl (reads_one law (word w) is.0)))));
-        spelled = settle room k j name (λ m. expr.Read (looks s h m by)) ts n
-            (subst (λ (o : List ℤ). SpellsRead ts (take k names) (expr.Read (looks s h (number_of (take k names) w) o)) (with_name (take k names) w)) (sym zero)
-            (fine (take k names) (word (store_text s)) (word at) s h w (store_token s) is_at is.1));
-      }
+      let offset = (and_parts (nat_lt name (length names)) (not (is_fine h) || is_zero by) can.form).1 in
+      let zero = zero_offset by can.fits (subst (λ (b : Bool). (not b || is_zero by) ≡ true) fine_how offset) in
+      said_named SpellsRead names are k j name (read_text names (looks s h name by)) (λ m. expr.Read (looks s h m by)) ts can.known can.within
+      (subst (λ (t : List ℕ). Reads t ts) (sym text)
+      (reads_token law (word (store_text s)) (store_lexeme s) refl (reads_sign law 46 refl refl
+      (reads_token law (word at) lexeme refl (reads_sign law 46 refl refl (reads_one law (word w) is.0))))))
+      (subst (λ (o : List ℤ). SpellsRead ts (take k names) (expr.Read (looks s h (number_of (take k names) w) o)) (with_name (take k names) w)) (sym zero)
+      (fine (take k names) (word (store_text s)) (word at) s h w (store_token s) is_at is.1))
 
-  said_read_by : (room k j : ℕ) (s : Store) (h : How) (name : ℕ) (by : List ℤ) → CanSay names room k j (expr.Read (looks s h name by))
-      → Said names room k j (expr.Read (looks s h name by))
-  said_read_by room k j s how.Same name by can = said_own room k j s name by can
-  said_read_by room k j s how.Coarse name by can = said_coarse room k j s name by can
-  said_read_by room k j s how.FineSum name by can = said_fine room k j s how.FineSum (codes "fine_sum") name by refl refl (refl, refl, omega arith) refl can
-  said_read_by room k j s how.FineMin name by can = said_fine room k j s how.FineMin (codes "fine_min") name by refl refl (refl, refl, omega arith) refl can
-  said_read_by room k j s how.FineMax name by can = said_fine room k j s how.FineMax (codes "fine_max") name by refl refl (refl, refl, omega arith) refl can
-  said_read_by room k j s how.FineCount name by can = said_fine room k j s how.FineCount (codes "fine_count") name by refl refl (refl, refl, omega arith) refl can
+  said_by_how : (k j : ℕ) (s : Store) (h : How) (name : ℕ) (by : List ℤ) → CanRead k j (looks s h name by) → SaidRead k j (looks s h name by)
+  said_by_how k j s how.Same name by = said_own k j s name by
+  said_by_how k j s how.Coarse name by = said_coarse k j s name by
+  said_by_how k j s how.FineSum name by = said_fine k j s how.FineSum (codes "fine_sum") name by refl refl (refl, refl, omega arith) refl
+  said_by_how k j s how.FineMin name by = said_fine k j s how.FineMin (codes "fine_min") name by refl refl (refl, refl, omega arith) refl
+  said_by_how k j s how.FineMax name by = said_fine k j s how.FineMax (codes "fine_max") name by refl refl (refl, refl, omega arith) refl
+  said_by_how k j s how.FineCount name by = said_fine k j s how.FineCount (codes "fine_count") name by refl refl (refl, refl, omega arith) refl
 
-  said_reduction : (room k j : ℕ) (s : Store) (name : ℕ) → CanSay names room k j (expr.Number s name) → Said names room k j (expr.Number s name)
+  -- what is spelled as a read is an expression
+  said_as_read : (room k j : ℕ) (e : Expr) (text : List ℕ) → expression_text names e ≡ text → Said SpellsRead names k j text e → SaidIn names room k j e
+  said_as_read room k j e text is s =
+      subst (λ (t : List ℕ). SaidBy names room k j t e) (sym is) (record {
+        tokens = s.tokens;
+        reads = s.reads;
+        spelled = one_primary room s.tokens (take k names) (take j names) e (read room s.tokens (take k names) (take j names) e s.spelled);
+      })
+
+  said_read : (room k j : ℕ) (r : Read) → CanSay names room k j (expr.Read r) → SaidIn names room k j (expr.Read r)
+  said_read room k j r can =
+      said_as_read room k j (expr.Read r) (read_text names r) (text_at names (Reading r) (expr.rolls-Read r))
+      (said_by_how k j r.store r.how r.name r.offset (can_read room k j r can))
+
+  said_reduction : (room k j : ℕ) (s : Store) (name : ℕ) → CanSay names room k j (expr.Number s name) → SaidIn names room k j (expr.Number s name)
   said_reduction room k j s name can =
-      let n = named names are.distinct k j name (subst (λ (ns : List ℕ). known_behind k ns ≡ Some j) (names_at (Number s name) (expr.rolls-Number s name)) can.known) can.within in
+      let known = subst (λ (ns : List ℕ). known_behind k ns ≡ Some j) (names_at_form (Number s name) (expr.rolls-Number s name)) can.known in
       let w = name_text names name in
-      let is = name_in room k j name (expr.Number s name) can n in
-      let ts : List Lexeme = word (store_text s) ∷ sign (codes ".") ∷ word w ∷ [] in
-      record {
-        tokens = ts;
-        reads = subst (λ (t : List ℕ). Reads t ts) (sym (text_at names (Number s name) (expr.rolls-Number s name)))
-            (reads_token law (word (store_text s)) (store_lexeme s) refl (reads_sign law 46 refl refl (reads_one law (word w) is.0)));
-        spelled = settle room k j name (λ m. expr.Number s m) ts n (reduction (take k names) (word (store_text s)) s w (store_token s) is.1);
-      }
+      let is = name_said names are k j name known can.within in
+      let text = store_text s ++ (codes "." ++ w) in
+      said_as_read room k j (expr.Number s name) text (text_at names (Number s name) (expr.rolls-Number s name))
+      (said_named SpellsRead names are k j name text (λ m. expr.Number s m) (word (store_text s) ∷ sign (codes ".") ∷ word w ∷ []) known can.within
+      (reads_token law (word (store_text s)) (store_lexeme s) refl (reads_sign law 46 refl refl (reads_one law (word w) is.0)))
+      (reduction (take k names) (word (store_text s)) s w (store_token s) is.1))
 
   -- ---- expressions with parts
 
-  said_negation : (n : ℕ) → Below names n → (room k j : ℕ) (a : Expr) → depth_of (expr.Neg a) < suc n → CanSay names room k j (expr.Neg a) → Said names room k j (expr.Neg a)
+  said_negation : (n : ℕ) → Below names n → (room k j : ℕ) (a : Expr) → depth_of (expr.Neg a) < suc n → CanSay names room k j (expr.Neg a) → SaidIn names room k j (expr.Neg a)
   said_negation n below room k j a less can =
       let deep = depth_of-Neg a in
       let s = below a room k j (omega (arith, deep, less)) (record {
         shallow = omega (arith, deep, can.shallow);
         leaves = sym (are_leaves_in_form-Neg (length names) a) ∙ can.leaves;
-        fits = sym (fits_at (Neg a) (expr.rolls-Neg a)) ∙ can.fits;
-        known = subst (λ (ns : List ℕ). known_behind k ns ≡ Some j) (names_at (Neg a) (expr.rolls-Neg a)) can.known;
+        fits = sym (fits_at_form (Neg a) (expr.rolls-Neg a)) ∙ can.fits;
+        known = subst (λ (ns : List ℕ). known_behind k ns ≡ Some j) (names_at_form (Neg a) (expr.rolls-Neg a)) can.known;
         within = can.within;
       }) in
       record {
@@ -254,16 +212,16 @@ module _ (law : TokensAreReadAgain) (names : Words) (are : AreNames names) where
       }
 
   -- an expression on its own, as a product, as a sum, or whole
-  a_product : {room k j : ℕ} {e : Expr} (s : Said names room k j e) → Spells product room s.tokens (take k names) e (take j names)
+  a_product : {room k j : ℕ} {e : Expr} (s : SaidIn names room k j e) → Spells product room s.tokens (take k names) e (take j names)
   a_product {room} {k} {j} {e} s = one_unary room s.tokens (take k names) (take j names) e s.spelled
 
-  a_sum : {room k j : ℕ} {e : Expr} (s : Said names room k j e) → Spells sum room s.tokens (take k names) e (take j names)
+  a_sum : {room k j : ℕ} {e : Expr} (s : SaidIn names room k j e) → Spells sum room s.tokens (take k names) e (take j names)
   a_sum {room} {k} {j} {e} s = one_product room s.tokens (take k names) (take j names) e (a_product s)
 
-  a_whole : {room k j : ℕ} {e : Expr} (s : Said names room k j e) → Spells whole room s.tokens (take k names) e (take j names)
+  a_whole : {room k j : ℕ} {e : Expr} (s : SaidIn names room k j e) → Spells whole room s.tokens (take k names) e (take j names)
   a_whole {room} {k} {j} {e} s = one_sum room s.tokens (take k names) (take j names) e (a_sum s)
 
-  module _ (r k m j : ℕ) (a b : Expr) (first : Said names r k m a) (second : Said names r m j b) where
+  module _ (r k m j : ℕ) (a b : Expr) (first : SaidIn names r k m a) (second : SaidIn names r m j b) where
     -- between parentheses
     infix_said : (s : List ℕ) (o : Op) → IsSign s → Spells whole r (first.tokens ++ sign s ∷ second.tokens) (take k names) (expr.Binary o a b) (take j names)
         → SaidBy names (suc r) k j (infix_text s (expression_text names a) (expression_text names b)) (expr.Binary o a b)
@@ -330,16 +288,16 @@ module _ (law : TokensAreReadAgain) (names : Words) (are : AreNames names) where
     operation_said op.Max = call_said (codes "max") op.Max (refl, refl, omega arith) refl
 
   said_operation : (n : ℕ) → Below names n → (room k j : ℕ) (o : Op) (a b : Expr) → depth_of (expr.Binary o a b) < suc n
-      → CanSay names room k j (expr.Binary o a b) → Said names room k j (expr.Binary o a b)
-  said_operation n below zero k j o a b less can = absurd (omega (arith, depth_of-Binary o a b, can.shallow, depth_positive a))
+      → CanSay names room k j (expr.Binary o a b) → SaidIn names room k j (expr.Binary o a b)
+  said_operation n below zero k j o a b less can = absurd (omega (arith, depth_of-Binary o a b, can.shallow, depth_of_positive a))
   said_operation n below (suc r) k j o a b less can =
       let deep = depth_of-Binary o a b in
       let e = expr.Binary o a b in
       let parts = between k j (expression_names a) (expression_names b)
-      (subst (λ (ns : List ℕ). known_behind k ns ≡ Some j) (names_at (Binary o a b) (expr.rolls-Binary o a b)) can.known) in
-      let rises = known_rises parts.middle j (expression_names b) parts.second in
+      (subst (λ (ns : List ℕ). known_behind k ns ≡ Some j) (names_at_form (Binary o a b) (expr.rolls-Binary o a b)) can.known) in
+      let rises = known_grows parts.middle (expression_names b) j parts.second in
       let leaves = and_parts (are_leaves_in_form (length names) a) (are_leaves_in_form (length names) b) (sym (are_leaves_in_form-Binary (length names) o a b) ∙ can.leaves) in
-      let fits = and_parts (expression_fits a) (expression_fits b) (sym (fits_at (Binary o a b) (expr.rolls-Binary o a b)) ∙ can.fits) in
+      let fits = and_parts (expression_fits a) (expression_fits b) (sym (fits_at_form (Binary o a b) (expr.rolls-Binary o a b)) ∙ can.fits) in
       let first = below a r k parts.middle (omega (arith, deep, less)) (record {
         shallow = omega (arith, deep, can.shallow);
         leaves = leaves.0;
@@ -359,7 +317,7 @@ module _ (law : TokensAreReadAgain) (names : Words) (are : AreNames names) where
 
   -- ---- selections
 
-  module _ (r k l m j : ℕ) (c a b : Expr) (test : Said names r k l c) (first : Said names r l m a) (second : Said names r m j b) where
+  module _ (r k l m j : ℕ) (c a b : Expr) (test : SaidIn names r k l c) (first : SaidIn names r l m a) (second : SaidIn names r m j b) where
     selection_said : SaidBy names (suc r) k j (text_over names (Select (expression_text names c) (expression_text names a) (expression_text names b))) (expr.Select c a b)
     selection_said =
         let close : List Lexeme = sign (codes ")") ∷ [] in
@@ -378,20 +336,20 @@ module _ (law : TokensAreReadAgain) (names : Words) (are : AreNames names) where
         }
 
   said_selection : (n : ℕ) → Below names n → (room k j : ℕ) (c a b : Expr) → depth_of (expr.Select c a b) < suc n
-      → CanSay names room k j (expr.Select c a b) → Said names room k j (expr.Select c a b)
-  said_selection n below zero k j c a b less can = absurd (omega (arith, depth_of-Select c a b, can.shallow, depth_positive a))
+      → CanSay names room k j (expr.Select c a b) → SaidIn names room k j (expr.Select c a b)
+  said_selection n below zero k j c a b less can = absurd (omega (arith, depth_of-Select c a b, can.shallow, depth_of_positive a))
   said_selection n below (suc r) k j c a b less can =
       let deep = depth_of-Select c a b in
       let e = expr.Select c a b in
       let parts = between k j (expression_names c) (expression_names a ++ expression_names b)
-      (subst (λ (ns : List ℕ). known_behind k ns ≡ Some j) (names_at (Select c a b) (expr.rolls-Select c a b)) can.known) in
+      (subst (λ (ns : List ℕ). known_behind k ns ≡ Some j) (names_at_form (Select c a b) (expr.rolls-Select c a b)) can.known) in
       let more = between parts.middle j (expression_names a) (expression_names b) parts.second in
-      let rises = known_rises more.middle j (expression_names b) more.second in
-      let rises' = known_rises parts.middle more.middle (expression_names a) more.first in
+      let rises = known_grows more.middle (expression_names b) j more.second in
+      let rises' = known_grows parts.middle (expression_names a) more.middle more.first in
       let leaf = are_leaves_in_form (length names) in
       let leaves = and_parts (leaf c && leaf a) (leaf b) (sym (are_leaves_in_form-Select (length names) c a b) ∙ can.leaves) in
       let leaves' = and_parts (leaf c) (leaf a) leaves.0 in
-      let fits = and_parts (expression_fits c) (expression_fits a && expression_fits b) (sym (fits_at (Select c a b) (expr.rolls-Select c a b)) ∙ can.fits) in
+      let fits = and_parts (expression_fits c) (expression_fits a && expression_fits b) (sym (fits_at_form (Select c a b) (expr.rolls-Select c a b)) ∙ can.fits) in
       let fits' = and_parts (expression_fits a) (expression_fits b) fits.1 in
       let test = below c r k parts.middle (omega (arith, deep, less)) (record {
         shallow = omega (arith, deep, can.shallow);
@@ -419,57 +377,38 @@ module _ (law : TokensAreReadAgain) (names : Words) (are : AreNames names) where
 
   -- ---- every expression
 
-  said_form : (n : ℕ) → Below names n → (room k j : ℕ) (d : Expr-F Expr) (x : Expr) → roll-Expr d ≡ x → depth_of x < suc n → CanSay names room k j x → Said names room k j x
-  said_form n below room k j (Literal m) x made less can =
-      let is = sym (expr.rolls-Literal m) ∙ made in
-      subst (λ (e : Expr). CanSay names room k j e → Said names room k j e) is (said_literal room k j m) can
-  said_form n below room k j X x made less can =
-      let is = sym expr.rolls-X ∙ made in
-      subst (λ (e : Expr). CanSay names room k j e → Said names room k j e) is
-      (said_place room k j expr.X (codes "x") refl (refl, refl, omega arith) (text_at names X expr.rolls-X) (names_at X expr.rolls-X)) can
-  said_form n below room k j Y x made less can =
-      let is = sym expr.rolls-Y ∙ made in
-      subst (λ (e : Expr). CanSay names room k j e → Said names room k j e) is
-      (said_place room k j expr.Y (codes "y") refl (refl, refl, omega arith) (text_at names Y expr.rolls-Y) (names_at Y expr.rolls-Y)) can
-  said_form n below room k j Z x made less can =
-      let is = sym expr.rolls-Z ∙ made in
-      subst (λ (e : Expr). CanSay names room k j e → Said names room k j e) is
-      (said_place room k j expr.Z (codes "z") refl (refl, refl, omega arith) (text_at names Z expr.rolls-Z) (names_at Z expr.rolls-Z)) can
-  said_form n below room k j Level x made less can =
-      let is = sym expr.rolls-Level ∙ made in
-      subst (λ (e : Expr). CanSay names room k j e → Said names room k j e) is
-      (said_place room k j expr.Level (codes "level") refl (refl, refl, omega arith) (text_at names Level expr.rolls-Level) (names_at Level expr.rolls-Level)) can
-  said_form n below room k j Material x made less can =
-      let is = sym expr.rolls-Material ∙ made in
-      subst (λ (e : Expr). CanSay names room k j e → Said names room k j e) is
-      (said_place room k j expr.Material (codes "material") refl (refl, refl, omega arith) (text_at names Material expr.rolls-Material) (names_at Material expr.rolls-Material)) can
-  said_form n below room k j Step x made less can =
-      let is = sym expr.rolls-Step ∙ made in
-      subst (λ (e : Expr). CanSay names room k j e → Said names room k j e) is
-      (said_place room k j expr.Step (codes "step") refl (refl, refl, omega arith) (text_at names Step expr.rolls-Step) (names_at Step expr.rolls-Step)) can
-  said_form n below room k j (Reading r) x made less can =
-      let is = sym (expr.rolls-Read r) ∙ made in
-      subst (λ (e : Expr). CanSay names room k j e → Said names room k j e) is (said_read_by room k j r.store r.how r.name r.offset) can
-  said_form n below room k j (Number s name) x made less can =
-      let is = sym (expr.rolls-Number s name) ∙ made in
-      subst (λ (e : Expr). CanSay names room k j e → Said names room k j e) is (said_reduction room k j s name) can
-  said_form n below room k j (Neg a) x made less can =
-      let is = sym (expr.rolls-Neg a) ∙ made in
-      subst (λ (e : Expr). depth_of e < suc n → CanSay names room k j e → Said names room k j e) is (said_negation n below room k j a) less can
-  said_form n below room k j (Binary o a b) x made less can =
-      let is = sym (expr.rolls-Binary o a b) ∙ made in
-      subst (λ (e : Expr). depth_of e < suc n → CanSay names room k j e → Said names room k j e) is (said_operation n below room k j o a b) less can
-  said_form n below room k j (Select c a b) x made less can =
-      let is = sym (expr.rolls-Select c a b) ∙ made in
-      subst (λ (e : Expr). depth_of e < suc n → CanSay names room k j e → Said names room k j e) is (said_selection n below room k j c a b) less can
+  -- an expression by its form, at the expression that the form makes
+  by_form : (n room k j : ℕ) {x y : Expr} → y ≡ x → (depth_of y < suc n → CanSay names room k j y → SaidIn names room k j y)
+      → depth_of x < suc n → CanSay names room k j x → SaidIn names room k j x
+  by_form n room k j is said = subst (λ (e : Expr). depth_of e < suc n → CanSay names room k j e → SaidIn names room k j e) is said
+
+  place_by_form : (n room k j : ℕ) (d : Expr-F Expr) (y x : Expr) (at : List ℕ) → roll-Expr d ≡ y → roll-Expr d ≡ x → place_of (word at) ≡ Some y → IsWord at
+      → text_over names (map-Expr Expr (List ℕ) (expression_text names) d) ≡ at → names_over (map-Expr Expr (List ℕ) expression_names d) ≡ []
+      → depth_of x < suc n → CanSay names room k j x → SaidIn names room k j x
+  place_by_form n room k j d y x at rolls made is lexeme text none =
+      by_form n room k j (sym rolls ∙ made) (λ less. said_place room k j y at is lexeme (text_at names d rolls ∙ text) (names_at_form d rolls ∙ none))
+
+  said_form : (n : ℕ) → Below names n → (room k j : ℕ) (d : Expr-F Expr) (x : Expr) → roll-Expr d ≡ x → depth_of x < suc n → CanSay names room k j x → SaidIn names room k j x
+  said_form n below room k j (Literal m) x made = by_form n room k j (sym (expr.rolls-Literal m) ∙ made) (λ less. said_literal room k j m)
+  said_form n below room k j X x made = place_by_form n room k j X expr.X x (codes "x") expr.rolls-X made refl (refl, refl, omega arith) refl refl
+  said_form n below room k j Y x made = place_by_form n room k j Y expr.Y x (codes "y") expr.rolls-Y made refl (refl, refl, omega arith) refl refl
+  said_form n below room k j Z x made = place_by_form n room k j Z expr.Z x (codes "z") expr.rolls-Z made refl (refl, refl, omega arith) refl refl
+  said_form n below room k j Level x made = place_by_form n room k j Level expr.Level x (codes "level") expr.rolls-Level made refl (refl, refl, omega arith) refl refl
+  said_form n below room k j Material x made = place_by_form n room k j Material expr.Material x (codes "material") expr.rolls-Material made refl (refl, refl, omega arith) refl refl
+  said_form n below room k j Step x made = place_by_form n room k j Step expr.Step x (codes "step") expr.rolls-Step made refl (refl, refl, omega arith) refl refl
+  said_form n below room k j (Reading r) x made = by_form n room k j (sym (expr.rolls-Read r) ∙ made) (λ less. said_read room k j r)
+  said_form n below room k j (Number s name) x made = by_form n room k j (sym (expr.rolls-Number s name) ∙ made) (λ less. said_reduction room k j s name)
+  said_form n below room k j (Neg a) x made = by_form n room k j (sym (expr.rolls-Neg a) ∙ made) (said_negation n below room k j a)
+  said_form n below room k j (Binary o a b) x made = by_form n room k j (sym (expr.rolls-Binary o a b) ∙ made) (said_operation n below room k j o a b)
+  said_form n below room k j (Select c a b) x made = by_form n room k j (sym (expr.rolls-Select c a b) ∙ made) (said_selection n below room k j c a b)
 
   said_below : (n : ℕ) → Below names n
   said_below zero e room k j less can = absurd (omega arith)
   said_below (suc n) e room k j less can = said_form n (said_below n) room k j (out-Expr e) e (roll-out-Expr e) less can
 
   -- an expression that can be said is said in its printed form
-  pub said : (room k j : ℕ) (e : Expr) → CanSay names room k j e → Said names room k j e
+  pub said : (room k j : ℕ) (e : Expr) → CanSay names room k j e → SaidIn names room k j e
   said room k j e can = said_below (suc (depth_of e)) e room k j (omega arith) can
 
-  pub said_whole : (room k j : ℕ) (e : Expr) (s : Said names room k j e) → Spells whole room s.tokens (take k names) e (take j names)
+  pub said_whole : (room k j : ℕ) (e : Expr) (s : SaidIn names room k j e) → Spells whole room s.tokens (take k names) e (take j names)
   said_whole room k j e s = a_whole s

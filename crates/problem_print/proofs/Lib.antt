@@ -1,5 +1,6 @@
 pub mod Phrases
 pub mod Counting
+pub mod Said
 pub mod Numerals
 pub mod Expressions
 pub mod Pieces

@@ -20,23 +20,23 @@ use Rattle.problem_types.specs.declared.problem.What.TheVariants as what
 use Rattle.problem_types.specs.declared.problem.WriteKind.{WriteKind}
 use Rattle.problem_types.specs.declared.problem.WriteKind.TheVariants as write
 use Rattle.problem_types.specs.Form.{IsLayerNumber}
-use Rattle.statement_parse.specs.Tables.{centring_of, fold_of}
+use Rattle.statement_parse.specs.Tables.{centring_of, fold_of, ghosts_of}
 use Rattle.statement_parse.specs.Grammar.{Fits, SpellsCorners, corners, SpellsLayers, no_layers, layers, SpellsWhat, same_level, coarser, finer, reduction, SpellsTarget, computes, modifies, reduces, SpellsStatement, version, steps, dump, ghost_limit, materials, level, box, patch, var, fold, init, task, requirement, writes, timestep, keep, end}
 use Rattle.statement_parse.specs.declared.statement.Statement.{Statement}
 use Rattle.statement_parse.specs.declared.statement.Statement.TheVariants as statement
 use Rattle.problem_printable.specs.Numbering.{expression_names, what_names, statement_names, known_behind}
-use Rattle.problem_printable.specs.Printable.{IsCorner, IsWhat, IsSayable, IsName, expression_fits}
+use Rattle.problem_printable.specs.Printable.{IsCorner, IsWhat, IsSayable, AreNames, expression_fits}
 use Rattle.problem_print.specs.Printed.{name_text, store_text, centring_text, fold_text, numbers_text, layers_of, what_text, target_text, statement_text}
 use Rattle.problem_print.proofs.Phrases.{TokensAreReadAgain, begins_anew, Reads, reads_nothing, reads_space, reads_both, reads_token, reads_one}
-use Rattle.problem_print.proofs.Counting.{AreNames, Named, named, between, none_behind, known_rises}
+use Rattle.problem_print.proofs.Counting.{named, between}
+use Rattle.problem_printable.specs.Known.{known_grows}
+use Rattle.problem_print.proofs.Said.{Said, said_nameless, said_named, name_said}
 use Rattle.problem_print.proofs.Numerals.{is_signed, said_signed, reads_number}
 use Rattle.problem_print.proofs.Expressions.{store_lexeme, store_token, said, said_whole}
 
--- the text is read as tokens that spell the statement
-pub record SaidStatement (names : Words) (k j : ℕ) (s : Statement) : Type 0 where
-  pub tokens : List Lexeme
-  pub reads : Reads (statement_text names s) tokens
-  pub spelled : SpellsStatement tokens (take k names) s (take j names)
+-- a statement in its printed form
+abbrev pub SaidStatement : Words → (k j : ℕ) → Statement → Type 0
+SaidStatement names k j s = Said SpellsStatement names k j (statement_text names s) s
 
 -- ---- words
 
@@ -117,6 +117,16 @@ module _ (law : TokensAreReadAgain) where
     reads : Reads (layers_of kind n) tokens
     spelled : SpellsLayers tokens (record { kind = kind; n = n })
 
+  -- so many layers of a kind
+  said_some : (w : List ℕ) (kind : GhostKind) (n : ℕ) → IsWord w → layers_of kind n ≡ 32 ∷ (w ++ (32 ∷ decimal n)) → ghosts_of (word w) ≡ Some kind → 1 ≤ n → Fits n
+      → SaidLayers kind n
+  said_some w kind n is text means some fits = record {
+    tokens = word w ∷ number n ∷ [];
+    begins = subst (λ (t : List ℕ). begins_anew t ≡ true) (sym text) refl;
+    reads = subst (λ (t : List ℕ). Reads t (word w ∷ number n ∷ [])) (sym text) (reads_space (reads_numbered w n is fits));
+    spelled = layers (word w) kind n means some fits;
+  }
+
   said_layers : (kind : GhostKind) (n : ℕ) → IsLayerNumber n kind → Fits n → SaidLayers kind n
   said_layers ghosts.None n zero fits = record {
     tokens = word (codes "none") ∷ [];
@@ -124,96 +134,42 @@ module _ (law : TokensAreReadAgain) where
     reads = reads_space (reads_one law (word (codes "none")) (refl, refl, omega arith));
     spelled = subst (λ (m : ℕ). SpellsLayers (word (codes "none") ∷ []) (record { kind = ghosts.None; n = m })) (sym zero) no_layers;
   }
-  said_layers ghosts.Cells n some fits = record {
-    tokens = word (codes "cells") ∷ number n ∷ [];
-    begins = refl;
-    reads = reads_space (reads_numbered (codes "cells") n (refl, refl, omega arith) fits);
-    spelled = layers (word (codes "cells")) ghosts.Cells n refl some fits;
-  }
-  said_layers ghosts.Nodes n some fits = record {
-    tokens = word (codes "nodes") ∷ number n ∷ [];
-    begins = refl;
-    reads = reads_space (reads_numbered (codes "nodes") n (refl, refl, omega arith) fits);
-    spelled = layers (word (codes "nodes")) ghosts.Nodes n refl some fits;
-  }
-  said_layers ghosts.FaceX n some fits = record {
-    tokens = word (codes "facex") ∷ number n ∷ [];
-    begins = refl;
-    reads = reads_space (reads_numbered (codes "facex") n (refl, refl, omega arith) fits);
-    spelled = layers (word (codes "facex")) ghosts.FaceX n refl some fits;
-  }
-  said_layers ghosts.FaceY n some fits = record {
-    tokens = word (codes "facey") ∷ number n ∷ [];
-    begins = refl;
-    reads = reads_space (reads_numbered (codes "facey") n (refl, refl, omega arith) fits);
-    spelled = layers (word (codes "facey")) ghosts.FaceY n refl some fits;
-  }
-  said_layers ghosts.FaceZ n some fits = record {
-    tokens = word (codes "facez") ∷ number n ∷ [];
-    begins = refl;
-    reads = reads_space (reads_numbered (codes "facez") n (refl, refl, omega arith) fits);
-    spelled = layers (word (codes "facez")) ghosts.FaceZ n refl some fits;
-  }
+  said_layers ghosts.Cells n some fits = said_some (codes "cells") ghosts.Cells n (refl, refl, omega arith) refl refl some fits
+  said_layers ghosts.Nodes n some fits = said_some (codes "nodes") ghosts.Nodes n (refl, refl, omega arith) refl refl some fits
+  said_layers ghosts.FaceX n some fits = said_some (codes "facex") ghosts.FaceX n (refl, refl, omega arith) refl refl some fits
+  said_layers ghosts.FaceY n some fits = said_some (codes "facey") ghosts.FaceY n (refl, refl, omega arith) refl refl some fits
+  said_layers ghosts.FaceZ n some fits = said_some (codes "facez") ghosts.FaceZ n (refl, refl, omega arith) refl refl some fits
 
   module _ (names : Words) (are : AreNames names) where
-    name_is : (k j name : ℕ) → Named names are.distinct k j name → j ≤ length names → IsName (name_text names name)
-    name_is k j name n within = are.words name [] (omega (arith, n.below, within))
-
     -- ---- requirements
 
-    record SaidWhat (k j : ℕ) (w : What) : Type 0 where
-      tokens : List Lexeme
-      reads : Reads (what_text names w) tokens
-      spelled : SpellsWhat tokens (take k names) w (take j names)
-
-    settle_what : (k j name : ℕ) (f : ℕ → What) (ts : List Lexeme) → Named names are.distinct k j name
-        → SpellsWhat ts (take k names) (f (number_of (take k names) (name_text names name))) (with_name (take k names) (name_text names name))
-        → SpellsWhat ts (take k names) (f name) (take j names)
-    settle_what k j name f ts n spelled =
-        let numbered = subst (λ (m : ℕ). SpellsWhat ts (take k names) (f m) (with_name (take k names) (name_text names name))) n.number spelled in
-        subst (λ (after : Words). SpellsWhat ts (take k names) (f name) after) n.words numbered
-
-    said_what : (k j : ℕ) (w : What) → IsWhat w → known_behind k (what_names w) ≡ Some j → j ≤ length names → SaidWhat k j w
+    said_what : (k j : ℕ) (w : What) → IsWhat w → known_behind k (what_names w) ≡ Some j → j ≤ length names → Said SpellsWhat names k j (what_text names w) w
     said_what k j (what.Same name g) is known within =
-        let n = named names are.distinct k j name known within in
         let w = name_text names name in
-        let free = name_is k j name n within in
+        let free = name_said names are k j name known within in
         let l = said_layers g.kind g.n is.0 is.1 in
-        record {
-          tokens = word w ∷ l.tokens;
-          reads = reads_token law (word w) free.0 l.begins l.reads;
-          spelled = settle_what k j name (λ m. what.Same m g) (word w ∷ l.tokens) n (same_level (take k names) w l.tokens g free.1 l.spelled);
-        }
+        said_named SpellsWhat names are k j name (what_text names (what.Same name g)) (λ m. what.Same m g) (word w ∷ l.tokens) known within
+        (reads_token law (word w) free.0 l.begins l.reads)
+        (same_level (take k names) w l.tokens g free.1 l.spelled)
     said_what k j (what.Coarse name g) is known within =
-        let n = named names are.distinct k j name known within in
         let w = name_text names name in
-        let free = name_is k j name n within in
+        let free = name_said names are k j name known within in
         let l = said_layers g.kind g.n is.0 is.1 in
-        let ts : List Lexeme = word (codes "coarse") ∷ word w ∷ l.tokens in
-        record {
-          tokens = ts;
-          reads = reads_token law (word (codes "coarse")) (refl, refl, omega arith) refl (reads_space (reads_token law (word w) free.0 l.begins l.reads));
-          spelled = settle_what k j name (λ m. what.Coarse m g) ts n (coarser (take k names) w l.tokens g free.1 l.spelled);
-        }
+        said_named SpellsWhat names are k j name (what_text names (what.Coarse name g)) (λ m. what.Coarse m g) (word (codes "coarse") ∷ word w ∷ l.tokens) known within
+        (reads_token law (word (codes "coarse")) (refl, refl, omega arith) refl (reads_space (reads_token law (word w) free.0 l.begins l.reads)))
+        (coarser (take k names) w l.tokens g free.1 l.spelled)
     said_what k j (what.Fine name) is known within =
-        let n = named names are.distinct k j name known within in
         let w = name_text names name in
-        let free = name_is k j name n within in
-        let ts : List Lexeme = word (codes "fine") ∷ word w ∷ [] in
-        record {
-          tokens = ts;
-          reads = reads_token law (word (codes "fine")) (refl, refl, omega arith) refl (reads_space (reads_one law (word w) free.0));
-          spelled = settle_what k j name (λ m. what.Fine m) ts n (finer (take k names) w free.1);
-        }
+        let free = name_said names are k j name known within in
+        said_named SpellsWhat names are k j name (what_text names (what.Fine name)) (λ m. what.Fine m) (word (codes "fine") ∷ word w ∷ []) known within
+        (reads_token law (word (codes "fine")) (refl, refl, omega arith) refl (reads_space (reads_one law (word w) free.0)))
+        (finer (take k names) w free.1)
     said_what k j (what.Number name) is known within =
-        let n = named names are.distinct k j name known within in
         let w = name_text names name in
-        let free = name_is k j name n within in
-        record {
-          tokens = word w ∷ [];
-          reads = reads_one law (word w) free.0;
-          spelled = settle_what k j name (λ m. what.Number m) (word w ∷ []) n (reduction (take k names) w free.1);
-        }
+        let free = name_said names are k j name known within in
+        said_named SpellsWhat names are k j name (what_text names (what.Number name)) (λ m. what.Number m) (word w ∷ []) known within
+        (reads_one law (word w) free.0)
+        (reduction (take k names) w free.1)
 
     -- ---- what is written
 
@@ -242,32 +198,26 @@ module _ (law : TokensAreReadAgain) where
 
     -- ---- statements
 
-    -- a statement that has no name
+    -- a statement that has no name, and one that has one
     nameless : (k j : ℕ) (s : Statement) (ts : List Lexeme) → Reads (statement_text names s) ts → SpellsStatement ts (take k names) s (take k names)
         → known_behind k [] ≡ Some j → SaidStatement names k j s
-    nameless k j s ts reads spelled known = record {
-      tokens = ts;
-      reads = reads;
-      spelled = subst (λ (n : ℕ). SpellsStatement ts (take k names) s (take n names)) (none_behind k j known) spelled;
-    }
+    nameless k j s ts reads spelled known = said_nameless SpellsStatement names k j (statement_text names s) s ts known reads spelled
 
-    settle : (k j name : ℕ) (f : ℕ → Statement) (ts : List Lexeme) → Named names are.distinct k j name
+    with_a_name : (k j name : ℕ) (f : ℕ → Statement) (ts : List Lexeme) → known_behind k (name ∷ []) ≡ Some j → j ≤ length names → Reads (statement_text names (f name)) ts
         → SpellsStatement ts (take k names) (f (number_of (take k names) (name_text names name))) (with_name (take k names) (name_text names name))
-        → SpellsStatement ts (take k names) (f name) (take j names)
-    settle k j name f ts n spelled =
-        let numbered = subst (λ (m : ℕ). SpellsStatement ts (take k names) (f m) (with_name (take k names) (name_text names name))) n.number spelled in
-        subst (λ (after : Words). SpellsStatement ts (take k names) (f name) after) n.words numbered
+        → SaidStatement names k j (f name)
+    with_a_name k j name f = said_named SpellsStatement names are k j name (statement_text names (f name)) f
 
     said_write : (k j : ℕ) (kind : WriteKind) (name : ℕ) (e : Expr) → IsExpressionInForm (length names) e → expression_fits e ≡ true
         → known_behind k (name ∷ expression_names e) ≡ Some j → j ≤ length names → SaidStatement names k j (statement.Write kind name e)
     said_write k j kind name e form fits known within =
         let parts = between k j (name ∷ []) (expression_names e) known in
         let m = parts.middle in
-        let rises = known_rises m j (expression_names e) parts.second in
+        let rises = known_grows m (expression_names e) j parts.second in
         let inside : m ≤ length names = omega (arith, rises, within) in
         let n = named names are.distinct k m name parts.first inside in
         let w = name_text names name in
-        let free = name_is k m name n inside in
+        let free = name_said names are k m name parts.first inside in
         let t = said_target kind w free.0 in
         let s = said law names are 64 m j e (record {
           shallow = omega (arith, form.shallow);
@@ -312,41 +262,29 @@ module _ (law : TokensAreReadAgain) where
         (reads_token law (word (codes "patch")) (refl, refl, omega arith) (corners_begin c.lo c.hi) (reads_both (reads_numbers c.lo is.0.fit) (numbers_begin c.hi) (reads_numbers c.hi is.1.fit)))
         (patch (take k names) (map number c.lo ++ map number c.hi) c (six_numbers c.lo c.hi is.0 is.1)) known
     said_statement k j (statement.Var name c outside) is known within =
-        let n = named names are.distinct k j name known within in
         let w = name_text names name in
-        let free = name_is k j name n within in
+        let free = name_said names are k j name known within in
         let z = said_signed law outside (signed_fits outside is) in
         let ts : List Lexeme = word (codes "var") ∷ word w ∷ word (centring_text c) ∷ word (codes "outside") ∷ z.tokens in
-        record {
-          tokens = ts;
-          reads = reads_token law (word (codes "var")) (refl, refl, omega arith) refl (reads_space (reads_token law (word w) free.0 refl (reads_space
-              (reads_token law (word (centring_text c)) (centring_lexeme c) refl (reads_space (reads_token law (word (codes "outside")) (refl, refl, omega arith) refl (reads_space z.reads)))))));
-          spelled = settle k j name (λ m. statement.Var m c outside) ts n (var (take k names) w (word (centring_text c)) c z.tokens outside free.1 (centring_token c) z.spelled);
-        }
+        with_a_name k j name (λ m. statement.Var m c outside) ts known within
+        (reads_token law (word (codes "var")) (refl, refl, omega arith) refl (reads_space (reads_token law (word w) free.0 refl (reads_space (reads_token law (word (centring_text c)) (centring_lexeme c) refl (reads_space (reads_token law (word (codes "outside")) (refl, refl, omega arith) refl (reads_space z.reads))))))))
+        (var (take k names) w (word (centring_text c)) c z.tokens outside free.1 (centring_token c) z.spelled)
     said_statement k j (statement.Reduction name f) is known within =
-        let n = named names are.distinct k j name known within in
         let w = name_text names name in
-        let free = name_is k j name n within in
+        let free = name_said names are k j name known within in
         let ts : List Lexeme = word (codes "reduction") ∷ word w ∷ word (fold_text f) ∷ [] in
-        record {
-          tokens = ts;
-          reads = reads_token law (word (codes "reduction")) (refl, refl, omega arith) refl (reads_space (reads_token law (word w) free.0 refl (reads_space (reads_one law (word (fold_text f)) (fold_lexeme f)))));
-          spelled = settle k j name (λ m. statement.Reduction m f) ts n (fold (take k names) w (word (fold_text f)) f free.1 (fold_token f));
-        }
+        with_a_name k j name (λ m. statement.Reduction m f) ts known within
+        (reads_token law (word (codes "reduction")) (refl, refl, omega arith) refl (reads_space (reads_token law (word w) free.0 refl (reads_space (reads_one law (word (fold_text f)) (fold_lexeme f))))))
+        (fold (take k names) w (word (fold_text f)) f free.1 (fold_token f))
     said_statement k j statement.Init is known within =
         nameless k j statement.Init (word (codes "init") ∷ []) (reads_one law (word (codes "init")) (refl, refl, omega arith)) (init (take k names)) known
     said_statement k j (statement.Task name levels numbers) is known within =
-        let n = named names are.distinct k j name known within in
         let w = name_text names name in
-        let free = name_is k j name n within in
+        let free = name_said names are k j name known within in
         let ts : List Lexeme = word (codes "task") ∷ word w ∷ word (codes "levels") ∷ (map number levels ++ (word (codes "materials") ∷ map number numbers)) in
-        record {
-          tokens = ts;
-          reads = reads_token law (word (codes "task")) (refl, refl, omega arith) refl (reads_space (reads_token law (word w) free.0 refl (reads_space
-              (reads_token law (word (codes "levels")) (refl, refl, omega arith) (task_begins levels (numbers_text numbers))
-              (reads_both (reads_numbers levels is.0.fit) refl (reads_space (reads_token law (word (codes "materials")) (refl, refl, omega arith) (numbers_begin numbers) (reads_numbers numbers is.1.fit))))))));
-          spelled = settle k j name (λ m. statement.Task m levels numbers) ts n (task (take k names) w levels numbers free.1 is.0 is.1);
-        }
+        with_a_name k j name (λ m. statement.Task m levels numbers) ts known within
+        (reads_token law (word (codes "task")) (refl, refl, omega arith) refl (reads_space (reads_token law (word w) free.0 refl (reads_space (reads_token law (word (codes "levels")) (refl, refl, omega arith) (task_begins levels (numbers_text numbers)) (reads_both (reads_numbers levels is.0.fit) refl (reads_space (reads_token law (word (codes "materials")) (refl, refl, omega arith) (numbers_begin numbers) (reads_numbers numbers is.1.fit)))))))))
+        (task (take k names) w levels numbers free.1 is.0 is.1)
     said_statement k j (statement.Require s w) is known within =
         let said_w = said_what k j w is known within in
         record {
@@ -358,14 +296,11 @@ module _ (law : TokensAreReadAgain) where
     said_statement k j statement.Timestep is known within =
         nameless k j statement.Timestep (word (codes "timestep") ∷ []) (reads_one law (word (codes "timestep")) (refl, refl, omega arith)) (timestep (take k names)) known
     said_statement k j (statement.Keep name) is known within =
-        let n = named names are.distinct k j name known within in
         let w = name_text names name in
-        let free = name_is k j name n within in
+        let free = name_said names are k j name known within in
         let ts : List Lexeme = word (codes "keep") ∷ word w ∷ [] in
-        record {
-          tokens = ts;
-          reads = reads_token law (word (codes "keep")) (refl, refl, omega arith) refl (reads_space (reads_one law (word w) free.0));
-          spelled = settle k j name (λ m. statement.Keep m) ts n (keep (take k names) w free.1);
-        }
+        with_a_name k j name (λ m. statement.Keep m) ts known within
+        (reads_token law (word (codes "keep")) (refl, refl, omega arith) refl (reads_space (reads_one law (word w) free.0)))
+        (keep (take k names) w free.1)
     said_statement k j statement.End is known within =
         nameless k j statement.End (word (codes "end") ∷ []) (reads_one law (word (codes "end")) (refl, refl, omega arith)) (end (take k names)) known

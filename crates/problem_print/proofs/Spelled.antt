@@ -21,10 +21,11 @@ use Rattle.problem_file.specs.Laws.{WholeProblemsAreInOrder}
 use Rattle.problem_file.specs.declared.order.Place.{Place}
 use Rattle.problem_file.specs.declared.order.Place.TheVariants as place
 use Rattle.problem_printable.specs.Numbering.{statement_names, known_behind}
-use Rattle.problem_printable.specs.Printable.{IsSayable, IsPrintable}
+use Rattle.problem_printable.specs.Printable.{IsSayable, AreNames, IsPrintable}
 use Rattle.problem_print.specs.Printed.{statement_text, lines_text, printed_text}
 use Rattle.problem_print.proofs.Phrases.{TokensAreReadAgain, is_one_line, Reads}
-use Rattle.problem_print.proofs.Counting.{AreNames, between, none_behind, known_rises}
+use Rattle.problem_print.proofs.Counting.{between, none_behind}
+use Rattle.problem_printable.specs.Known.{known_grows}
 use Rattle.problem_print.proofs.Sayings.{said_statement}
 
 -- ---- one line of a text
@@ -148,7 +149,7 @@ module _ (law : TokensAreReadAgain) (names : Words) (are : AreNames names) (text
           let empty = s.line - suc last in
           let parts = between k (length names) (statement_names s.statement) (flat_map (λ (t : Placed). statement_names t.statement) ss) known in
           let m = parts.middle in
-          let within = known_rises m (length names) (flat_map (λ (t : Placed). statement_names t.statement) ss) parts.second in
+          let within = known_grows m (flat_map (λ (t : Placed). statement_names t.statement) ss) (length names) parts.second in
           let sayable_here : IsSayable (length names) s.statement = sayable 0 s (omega arith) in
           let t = said_statement law names are k m s.statement sayable_here parts.first within in
           let bytes = statement_text names s.statement in
@@ -174,6 +175,5 @@ pub printed_is_read : TokensAreReadAgain → WholeProblemsAreInOrder → (p : Pr
 unfolding printed_text
 printed_is_read law order p h =
     let text = printed_text p in
-    let are : AreNames p.names = record { words = h.names; distinct = h.distinct } in
-    let all = all_left law p.names are text (statements_of p) [] 0 0 place.Start [] refl nothing (order p h.whole) h.lines h.numbered h.statements in
+    let all = all_left law p.names h.names text (statements_of p) [] 0 0 place.Start [] refl nothing (order p h.whole) h.lines h.numbered h.statements in
     record { lines = all.0; spelled = all.1; whole = h.whole }

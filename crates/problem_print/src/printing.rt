@@ -1,5 +1,6 @@
 ghost use Rattle.std.specs.Prelude.{◌≡◌, ◌∷◌, [], List, ℕ, map, IfOk, OnOk};
 ghost use Rattle.std.specs.List.{flat_map};
+ghost use Rattle.problem_types.specs.declared.problem.Problem.{Problem};
 ghost use Rattle.problem_file.specs.Grammar.{Spells, IsWellFormed};
 ghost use Rattle.problem_file.specs.Statements.{box_statement, patch_statement, statements_of};
 ghost use Rattle.problem_print.specs.Pages.{Adds, head_statements, level_statements, task_statement, task_statements, declarations, schedule};
@@ -8,19 +9,22 @@ ghost use Rattle.problem_print.specs.Printed.{printed_text};
 use crate::laws::printed_text_is_read;
 use crate::page::Page;
 use crate::statements::{put_statements, put_task_words};
+use problem_file::one_problem;
 use problem_printable::spelled_can_be_printed;
 use problem_types::{BoxLine, Level, Name, NoMemory, Problem, Task};
 use std::alloc::Global;
 
 /// The text of the problem: each statement in its printed form on its own line, and the lines between empty.
-/// `docs/language.md` has the printed form.
+/// `docs/language.md` has the printed form. The text spells this problem and no other, so `parse` gives it again.
 pub fn print(alloc: Global, p: &Problem) -> Result<Vec<u8>, NoMemory>
     requires { IsWellFormed p.now }
     ensures printed { IfOk result (λ text. text.items ≡ printed_text p.now) }
     ensures spelled { IfOk result (λ text. Spells text.items p.now) }
+    ensures read_again { IfOk result (λ text. (q : Problem) → Spells text.items q → q ≡ p.now) }
 {
     printed_text_is_read();
     spelled_can_be_printed();
+    one_problem();
     let mut page = Page {
         text: Vec::new(alloc),
         line: 0,

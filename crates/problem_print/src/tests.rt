@@ -1,5 +1,6 @@
 //! Printed forms, written out by hand.
 use crate::expression::put_expression;
+use crate::statements::Line;
 use crate::{print, well_formed};
 use problem_file::parse;
 use problem_types::{
@@ -107,6 +108,85 @@ fn each_read_says_where_it_looks(rt: HostRuntime) -> Result<(), Fail> {
         (Store::Old, How::FineCount, [0, 0, 0], "old.fine_count.u"),
     ] {
         assert!(rt; is_printed_as(alloc, &read(store, how, offset), want)?);
+    }
+    Ok(())
+}
+
+fn is_put_as<S: Line>(alloc: Global, statement: &S, want: &str) -> Result<bool, Fail> {
+    let names = names(alloc)?;
+    let mut out = Vec::new(alloc);
+    statement.put(&mut out, names.as_slice())?;
+    Ok(out.as_slice() == want.as_bytes())
+}
+
+#[test]
+fn a_variable_says_where_its_numbers_stand(rt: HostRuntime) -> Result<(), Fail> {
+    let alloc = rt.alloc();
+    for (centring, outside, want) in [
+        (Centring::Cell, 0, "var u cell outside 0"),
+        (Centring::Node, 10, "var u node outside 10"),
+        (Centring::FaceX, -1, "var u facex outside -1"),
+        (
+            Centring::FaceY,
+            i64::MAX,
+            "var u facey outside 9223372036854775807",
+        ),
+        (
+            Centring::FaceZ,
+            i64::MIN,
+            "var u facez outside -9223372036854775808",
+        ),
+    ] {
+        let var = Var {
+            line: 1,
+            name: 0,
+            centring,
+            outside,
+        };
+        assert!(rt; is_put_as(alloc, &var, want)?);
+    }
+    Ok(())
+}
+
+#[test]
+fn a_reduction_says_how_it_folds(rt: HostRuntime) -> Result<(), Fail> {
+    let alloc = rt.alloc();
+    for (fold, want) in [
+        (Fold::Sum, "reduction most sum"),
+        (Fold::Min, "reduction most min"),
+        (Fold::Max, "reduction most max"),
+    ] {
+        let reduction = Reduction {
+            line: 1,
+            name: 1,
+            fold,
+        };
+        assert!(rt; is_put_as(alloc, &reduction, want)?);
+    }
+    Ok(())
+}
+
+#[test]
+fn a_requirement_says_which_layers_it_wants(rt: HostRuntime) -> Result<(), Fail> {
+    let alloc = rt.alloc();
+    for (kind, n, want) in [
+        (GhostKind::None, 0, "requires new u none"),
+        (GhostKind::Cells, 1, "requires new u cells 1"),
+        (GhostKind::Nodes, 2, "requires new u nodes 2"),
+        (GhostKind::FaceX, 3, "requires new u facex 3"),
+        (GhostKind::FaceY, 4, "requires new u facey 4"),
+        (GhostKind::FaceZ, 10, "requires new u facez 10"),
+    ] {
+        let what = What::Same {
+            var: 0,
+            layers: Ghost { kind, n },
+        };
+        let require = Require {
+            line: 1,
+            store: Store::New,
+            what,
+        };
+        assert!(rt; is_put_as(alloc, &require, want)?);
     }
     Ok(())
 }
@@ -285,6 +365,16 @@ keep most
 end
 ";
 
+#[test]
+fn each_statement_stands_on_its_line(rt: HostRuntime) -> Result<(), Fail> {
+    let alloc = rt.alloc();
+    let p = problem(alloc)?;
+    assert!(rt; well_formed(alloc, &p)?);
+    let text = print(alloc, &p)?;
+    assert_eq!(rt; text.as_slice(), WANT.as_bytes());
+    Ok(())
+}
+
 /// A problem with comments, empty lines and other blanks.
 const LOOSE: &str =
     "# a cell\nproblem 1\nsteps 2\ndump 1\nghost 1\nmaterials 1\nlevel ratio 1\nbox 0 0 0 1 1 1\npatch 0 0 0 1 1 1\n\n\nvar u cell outside - 5\ninit\ntask start levels 0 materials 0\ncomputes u = 1-x-2 # of three\ntimestep\nkeep u\nend";
@@ -296,7 +386,7 @@ const PRINTED: &str =
 fn what_is_printed_is_read_again(rt: HostRuntime) -> Result<(), Fail> {
     let alloc = rt.alloc();
     let p = parse(alloc, LOOSE.as_bytes())?;
-    assert!(rt; well_formed(&p));
+    assert!(rt; well_formed(alloc, &p)?);
     let text = print(alloc, &p)?;
     assert_eq!(rt; text.as_slice(), PRINTED.as_bytes());
     let again = parse(alloc, PRINTED.as_bytes())?;

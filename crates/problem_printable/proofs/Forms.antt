@@ -1,21 +1,14 @@
 -- The names of each form of expression, and whether its numbers have 64 bits.
-use Rattle.std.proofs.Common.{◌≡◌, ℕ, ◌^◌, ℤ, pos, Bool, true, ◌&&◌, List, [], ◌∷◌, ◌++◌}
+use Rattle.std.proofs.Common.{◌≡◌, ℕ, ◌^◌, ℤ, pos, true, ◌&&◌, [], ◌∷◌, ◌++◌}
 use Rattle.std.specs.Prelude.{int_lt}
-use Rattle.kernel_ast.specs.Folds.{fold-at_form}
 use Rattle.kernel_ast.specs.declared.expression.Store.{Store}
 use Rattle.kernel_ast.specs.declared.expression.Read.{Read}
 use Rattle.kernel_ast.specs.declared.expression.Op.{Op}
 use Rattle.kernel_ast.specs.declared.expression.Expr.{Expr}
-use Rattle.kernel_ast.specs.declared.expression.Expr.TheOpen.{Expr-F, Literal, X, Y, Z, Level, Material, Step, Read as Reading, Number, Neg, Binary, Select}
+use Rattle.kernel_ast.specs.declared.expression.Expr.TheOpen.{Literal, X, Y, Z, Level, Material, Step, Read as Reading, Number, Neg, Binary, Select}
 use Rattle.kernel_ast.specs.declared.expression.Expr.TheVariants as expr
-use Rattle.kernel_ast.specs.declared.expression.Expr.TheViews.{roll-Expr}
-use Rattle.kernel_ast.specs.declared.expression.Expr.TheFolds.{map-Expr}
-use Rattle.problem_printable.specs.Numbering.{names_over, expression_names}
-use Rattle.problem_printable.specs.Printable.{is_offset, fits_over, expression_fits}
-
-names_at_form : {x : Expr} (d : Expr-F Expr) → roll-Expr d ≡ x → expression_names x ≡ names_over (map-Expr Expr (List ℕ) expression_names d)
-unfolding expression_names
-names_at_form d made = fold-at_form names_over d made
+use Rattle.problem_printable.specs.Numbering.{expression_names, names_at_form}
+use Rattle.problem_printable.specs.Printable.{is_offset, expression_fits, fits_at_form}
 
 pub expression_names-Literal : (n : ℤ) → expression_names (expr.Literal n) ≡ []
 expression_names-Literal n = names_at_form (Literal n) (expr.rolls-Literal n)
@@ -68,10 +61,6 @@ pub ruleset names_of_forms = (
   expression_names-Binary,
   expression_names-Select,
 )
-
-fits_at_form : {x : Expr} (d : Expr-F Expr) → roll-Expr d ≡ x → expression_fits x ≡ fits_over (map-Expr Expr Bool expression_fits d)
-unfolding expression_fits
-fits_at_form d made = fold-at_form fits_over d made
 
 pub expression_fits-Literal : (n : ℤ) → expression_fits (expr.Literal n) ≡ int_lt n (pos (2 ^ 63))
 expression_fits-Literal n = fits_at_form (Literal n) (expr.rolls-Literal n)

@@ -17,7 +17,7 @@ use Rattle.problem_printable.specs.Laws.{SpelledCanBePrinted}
 use Rattle.problem_printable.specs.Numbering.{statement_names}
 use Rattle.problem_printable.specs.Printable.{IsSayable}
 use Rattle.problem_printable.proofs.Ascent.{ascent_followed, increasing_where_some}
-use Rattle.problem_printable.proofs.Known.{known_grows}
+use Rattle.problem_printable.specs.Known.{known_grows}
 use Rattle.problem_printable.proofs.Naming.{Grows, grows_none, grows_both, no_names}
 use Rattle.problem_printable.proofs.SpelledNames.{AreSpelled}
 use Rattle.problem_printable.proofs.Statements.{SpelledInForm, statement_named, statement_sayable}
@@ -86,12 +86,10 @@ module _ (in_form : SpelledInForm) (longest : LongestAtFront) where
   pub spelled_printable : SpelledCanBePrinted
   spelled_printable p (text, spelled) =
       let all = said spelled.spelled in
-      let names = all.named.kept no_names in
       record {
         whole = spelled.whole;
         lines = increasing_where_some 0 _ (let last = all.ascending in search rules);
-        names = names.each;
-        distinct = names.distinct;
+        names = all.named.kept no_names;
         numbered = all.named.numbered;
         statements = all.sayable _ (omega arith);
       }

@@ -1,5 +1,4 @@
 pub mod Forms
-pub mod Known
 pub mod Naming
 pub mod Elements
 pub mod Places
@@ -10,8 +9,6 @@ pub mod Statements
 pub mod Ascent
 pub mod Law
 pub mod Steps
-pub mod Limits
-pub mod Fitting
 pub mod Distinct
 pub mod InOrder
 pub mod Sayable

@@ -1,5 +1,5 @@
 -- How the names grow by what is spelled: each part names words that are known, or the next new one.
-use Rattle.std.proofs.Common.{◌≡◌, ◌≢◌, ℕ, suc, ◌+◌, ◌<◌, Bool, true, false, cond, not, ◌||◌, ◌==◌, refl, sym, ap, ◌∙◌, arith, List, [], ◌∷◌, ◌++◌, length, get_or, All, AllPairs, Some, nat_lt}
+use Rattle.std.proofs.Common.{◌≡◌, ◌≢◌, ℕ, suc, ◌+◌, ◌<◌, Bool, true, false, cond, not, ◌||◌, ◌==◌, refl, sym, ap, ◌∙◌, arith, List, [], ◌∷◌, ◌++◌, length, get_or, Some, nat_lt}
 use Rattle.std.specs.List.{list_any, prefix_len}
 use Rattle.std.specs.Str.{bytes_eq}
 use Rattle.std.proofs.lemmas.Bool.{false≢true}
@@ -12,16 +12,11 @@ use Rattle.std.proofs.lemmas.Slice.Eq.{bytes_eq-Decides}
 use Rattle.uts_lex.specs.Names.{number_of, with_name}
 use Rattle.kernel_parse.specs.Grammar.{Words}
 use Rattle.problem_printable.specs.Numbering.{known_behind}
-use Rattle.problem_printable.specs.Printable.{IsName}
-use Rattle.problem_printable.proofs.Known.{known_followed}
-
--- distinct words that may be names
-pub record AreNames (names : Words) : Type 0 where
-  pub each : All IsName names
-  pub distinct : AllPairs ◌≢◌ names
+use Rattle.problem_printable.specs.Printable.{IsName, AreNames}
+use Rattle.problem_printable.specs.Known.{known_followed}
 
 pub no_names : AreNames []
-no_names = record { each = All-nil IsName; distinct = λ i j d lt within. absurd (omega arith) }
+no_names = record { words = All-nil IsName; distinct = λ i j d lt within. absurd (omega arith) }
 
 -- from some names, by the numbers of those that are used, to the names behind them
 pub record Grows (names : Words) (used : List ℕ) (after : Words) : Type 0 where
@@ -83,7 +78,7 @@ name_kept names word is h = by (list_any (bytes_eq word) names) refl
     by : (b : Bool) → list_any (bytes_eq word) names ≡ b → AreNames (cond b names (names ++ word ∷ []))
     by true there = h
     by false new = record {
-      each = All-push IsName names word h.each is;
+      words = All-push IsName names word h.words is;
       distinct = all_pairs_push ◌≢◌ names word h.distinct (λ k d inside same. false≢true (sym new ∙ list_any_at (bytes_eq word) names k d inside ((bytes_eq-Decides word (get_or names k d)).1 (sym same))));
     }
 

@@ -1,4 +1,5 @@
 pub mod Numbering
+pub mod Known
 pub mod Printable
 pub mod Laws
 pub mod Progress

@@ -1,8 +1,10 @@
 -- Names numbered in the order of their first appearance.
-use Rattle.std.specs.Prelude.{ℕ, ◌+◌, ◌==◌, List, [], ◌∷◌, ◌++◌, Option, Some, None, nat_lt, if◌then◌else◌}
+use Rattle.std.specs.Prelude.{◌≡◌, ℕ, ◌+◌, ◌==◌, List, [], ◌∷◌, ◌++◌, Option, Some, None, nat_lt, if◌then◌else◌}
+use Rattle.kernel_ast.specs.Folds.{fold-at_form}
 use Rattle.kernel_ast.specs.declared.expression.Expr.{Expr}
 use Rattle.kernel_ast.specs.declared.expression.Expr.TheOpen.{Expr-F, Literal, X, Y, Z, Level, Material, Step, Read as Reading, Number, Neg, Binary, Select}
-use Rattle.kernel_ast.specs.declared.expression.Expr.TheFolds.{fold-Expr}
+use Rattle.kernel_ast.specs.declared.expression.Expr.TheViews.{roll-Expr}
+use Rattle.kernel_ast.specs.declared.expression.Expr.TheFolds.{fold-Expr, map-Expr}
 use Rattle.problem_types.specs.declared.problem.What.{What}
 use Rattle.problem_types.specs.declared.problem.What.TheVariants as what
 use Rattle.statement_parse.specs.declared.statement.Statement.{Statement}
@@ -25,6 +27,11 @@ names_over (Select c a b) = c ++ (a ++ b)
 
 unfoldable pub expression_names : Expr → List ℕ
 expression_names = fold-Expr (List ℕ) names_over
+
+-- the names at a form of expression, over those of its parts
+pub names_at_form : {x : Expr} (d : Expr-F Expr) → roll-Expr d ≡ x → expression_names x ≡ names_over (map-Expr Expr (List ℕ) expression_names d)
+unfolding expression_names
+names_at_form d made = fold-at_form names_over d made
 
 abbrev pub what_names : What → List ℕ
 what_names (what.Same name layers) = name ∷ []

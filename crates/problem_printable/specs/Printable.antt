@@ -4,10 +4,13 @@ use Rattle.std.specs.Int.{w64}
 use Rattle.std.specs.List.{flat_map, list_all}
 use Rattle.std.specs.List.Sorted.{IsStrictlyIncreasing}
 use Rattle.uts_lex.specs.Spelling.{IsWord}
+use Rattle.kernel_ast.specs.Folds.{fold-at_form}
 use Rattle.kernel_ast.specs.Form.{IsExpressionInForm}
 use Rattle.kernel_ast.specs.declared.expression.Expr.{Expr}
 use Rattle.kernel_ast.specs.declared.expression.Expr.TheOpen.{Expr-F, Literal, X, Y, Z, Level, Material, Step, Read as Reading, Number, Neg, Binary, Select}
-use Rattle.kernel_ast.specs.declared.expression.Expr.TheFolds.{fold-Expr}
+use Rattle.kernel_ast.specs.declared.expression.Expr.TheViews.{roll-Expr}
+use Rattle.kernel_ast.specs.declared.expression.Expr.TheFolds.{fold-Expr, map-Expr}
+use Rattle.kernel_parse.specs.Grammar.{Words}
 use Rattle.problem_types.specs.Form.{AreLayersInForm}
 use Rattle.problem_types.specs.declared.problem.Problem.{Problem}
 use Rattle.problem_types.specs.declared.problem.Ghost.{Ghost}
@@ -59,6 +62,11 @@ fits_over (Select c a b) = c && (a && b)
 unfoldable pub expression_fits : Expr → Bool
 expression_fits = fold-Expr Bool fits_over
 
+-- the same at a form of expression
+pub fits_at_form : {x : Expr} (d : Expr-F Expr) → roll-Expr d ≡ x → expression_fits x ≡ fits_over (map-Expr Expr Bool expression_fits d)
+unfolding expression_fits
+fits_at_form d made = fold-at_form fits_over d made
+
 -- the numbers of a statement can be spelled, where so many names are known
 abbrev pub IsSayable : ℕ → Statement → Type 0
 IsSayable names (statement.Version n) = n ≡ 1
@@ -83,6 +91,11 @@ IsSayable names statement.End = Unit {0}
 abbrev pub IsName : List ℕ → Type 0
 IsName word = IsWord word × IsFree word
 
+-- distinct words that may be names
+pub record AreNames (names : Words) : Type 0 where
+  pub words : All IsName names
+  pub distinct : AllPairs ◌≢◌ names
+
 -- each line comes after the one before it, and the first one after 0
 abbrev pub AreInOrder : List Placed → Type 0
 AreInOrder ss = IsStrictlyIncreasing (0 ∷ map (λ s. s.line) ss)
@@ -90,7 +103,6 @@ AreInOrder ss = IsStrictlyIncreasing (0 ∷ map (λ s. s.line) ss)
 pub record IsPrintable (p : Problem) : Type 0 where
   pub whole : IsWhole p
   pub lines : AreInOrder (statements_of p)
-  pub names : All IsName p.names
-  pub distinct : AllPairs ◌≢◌ p.names
+  pub names : AreNames p.names
   pub numbered : known_behind 0 (flat_map (λ s. statement_names s.statement) (statements_of p)) ≡ Some (length p.names)
   pub statements : All (λ s. IsSayable (length p.names) s.statement) (statements_of p)

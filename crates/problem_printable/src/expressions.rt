@@ -1,69 +1,48 @@
 //! Whether an expression can be spelled.
-ghost use Rattle.std.specs.Prelude.{◌≡◌, ◌-◌, ◌↔◌, IsTrue, IfSome};
-ghost use Rattle.std.specs.Option.{SomeIff};
-ghost use Rattle.kernel_ast.specs.Size.{node_count};
-ghost use Rattle.kernel_ast.specs.Form.{IsExpressionInForm, IsWithin, is_fine, is_zero, is_read_in_form};
+ghost use Rattle.std.specs.Prelude.{◌≡◌, ◌↔◌, IsTrue};
+ghost use Rattle.kernel_ast.specs.Form.{IsExpressionInForm};
 ghost use Rattle.problem_printable.specs.Printable.{is_offset, expression_fits};
 
-use problem_types::{Expr, How, Read};
+use kernel_ast::in_form;
+use problem_types::Expr;
 
-/// Whether a kernel may have this expression where so many names are known: at most 64 deep and of at
-/// most 256 nodes, each literal at least 0, each name below `names`, and no offset at a fine read.
+/// Whether a kernel may have this expression where so many names are known. Nothing goes down an expression that is
+/// deeper than the limit.
 pub(crate) fn is_sayable(e: &Expr, names: usize) -> bool
     ensures { IsTrue result ↔ (IsExpressionInForm names e.now × IsTrue (expression_fits e.now)) }
 {
-    nodes_left(e, names, 64, 256).is_some()
+    in_form(e, names) && do_numbers_fit(e)
 }
 
-// How many of the nodes are left after those of the expression, which may be this deep. It goes no
-// deeper than that.
-#[tactic(auto, using(crate::proofs::Limits::left_after_forms, kernel_ast::specs::Size::depths_of_forms, kernel_ast::specs::Size::node_counts_of_forms, kernel_ast::specs::Form::leaves_of_forms, crate::proofs::Forms::fits_of_forms))]
-fn nodes_left(e: &Expr, names: usize, depth: u32, nodes: u32) -> Option<u32>
-    ensures left { SomeIff result (IsWithin names depth nodes e.now) (nodes - node_count e.now) }
-    ensures fits { IfSome result (λ _. IsTrue (expression_fits e.now)) }
+// Whether the numbers of the expression have 64 bits. Each has, by its type, and that is known where it is read.
+#[tactic(auto, using(crate::proofs::Forms::fits_of_forms))]
+fn do_numbers_fit(e: &Expr) -> bool
+    ensures { result ≡ expression_fits e.now }
 {
-    if depth == 0 || nodes == 0 {
-        return None;
-    }
     match e {
-        Expr::Literal(n) => (*n >= 0).then_some(nodes - 1),
-        Expr::Read(read) => is_read_in_form(read, names).then_some(nodes - 1),
-        Expr::Number { name, .. } => ((*name as usize) < names).then_some(nodes - 1),
-        Expr::X | Expr::Y | Expr::Z | Expr::Level | Expr::Material | Expr::Step => Some(nodes - 1),
-        Expr::Neg(a) => nodes_left(a.get(), names, depth - 1, nodes - 1),
-        Expr::Binary(_, a, b) => {
-            let left = nodes_left(a.get(), names, depth - 1, nodes - 1)?;
-            nodes_left(b.get(), names, depth - 1, left)
+        Expr::Literal(n) => {
+            let _value = *n;
+            true
         }
+        Expr::Read(read) => is_offset(&read.offset),
+        Expr::X
+        | Expr::Y
+        | Expr::Z
+        | Expr::Level
+        | Expr::Material
+        | Expr::Step
+        | Expr::Number { .. } => true,
+        Expr::Neg(a) => do_numbers_fit(a.get()),
+        Expr::Binary(_, a, b) => do_numbers_fit(a.get()) && do_numbers_fit(b.get()),
         Expr::Select(c, a, b) => {
-            let left = nodes_left(c.get(), names, depth - 1, nodes - 1)?;
-            let left = nodes_left(a.get(), names, depth - 1, left)?;
-            nodes_left(b.get(), names, depth - 1, left)
+            do_numbers_fit(c.get()) && do_numbers_fit(a.get()) && do_numbers_fit(b.get())
         }
     }
 }
 
-fn is_read_in_form(read: &Read, names: usize) -> bool
-    ensures in_form { result ≡ is_read_in_form names read.now }
-    ensures offset { IsTrue (is_offset read.now.offset) }
+fn is_offset(offset: &[i64; 3]) -> bool
+    ensures { result ≡ is_offset offset.now }
 {
-    let zero = is_zero(&read.offset);
-    (read.name as usize) < names && (!is_fine(read.how) || zero)
-}
-
-fn is_zero(offset: &[i64; 3]) -> bool
-    ensures zero { result ≡ is_zero offset.now }
-    ensures offset { IsTrue (is_offset offset.now) }
-{
-    let [x, y, z] = *offset;
-    x == 0 && y == 0 && z == 0
-}
-
-fn is_fine(how: How) -> bool
-    ensures { result ≡ is_fine how }
-{
-    match how {
-        How::Same | How::Coarse => false,
-        How::FineSum | How::FineMin | How::FineMax | How::FineCount => true,
-    }
+    let [_x, _y, _z] = *offset;
+    true
 }

@@ -1,13 +1,14 @@
 //! Words that may be names of a problem.
-ghost use Rattle.std.specs.Prelude.{◌≡◌, ◌≢◌, ◌↔◌, ◌∷◌, IsTrue, All, AllPairs};
-ghost use Rattle.std.specs.List.{list_all, list_any};
-ghost use Rattle.std.specs.Str.{bytes_eq};
+ghost use Rattle.std.specs.Prelude.{◌≡◌, ◌≢◌, ◌↔◌, ◌∷◌, IsTrue, IfOk, AllPairs};
+ghost use Rattle.std.specs.List.{list_all};
 ghost use Rattle.uts_lex.specs.Lexemes.{is_word_byte};
 ghost use Rattle.uts_lex.specs.Spelling.{IsWord};
-ghost use Rattle.kernel_parse.specs.Signs.{is_reserved};
-ghost use Rattle.problem_printable.specs.Printable.{IsName};
+ghost use Rattle.problem_printable.specs.Printable.{IsName, AreNames};
 
-use problem_types::Name;
+use kernel_parse::is_reserved;
+use problem_types::{Name, NoMemory};
+use std::alloc::{AllocError, Global};
+use std::collections::BTreeSet;
 
 fn is_word_byte(byte: u8) -> bool
     ensures { result ≡ is_word_byte byte }
@@ -37,44 +38,32 @@ fn is_word(bytes: &[u8]) -> bool
     }
 }
 
-// Whether the word has a meaning of its own where a name may stand.
-fn is_reserved(word: &[u8]) -> bool
-    ensures { result ≡ is_reserved word.now }
-{
-    word == b"coarse".as_slice()
-        || word == b"fine".as_slice()
-        || word == b"fine_sum".as_slice()
-        || word == b"fine_min".as_slice()
-        || word == b"fine_max".as_slice()
-        || word == b"fine_count".as_slice()
-}
-
 fn is_name(word: &[u8]) -> bool
     ensures { IsTrue result ↔ IsName word.now }
 {
     is_word(word) && !is_reserved(word)
 }
 
-fn is_among(names: &[Name], word: &[u8]) -> bool
-    ensures { result ≡ list_any (bytes_eq word.now) names.now }
+// Whether no word stands twice. Of n words each is looked for in a tree of those before it, so at most about
+// n log n words are compared. It takes memory for the tree.
+fn are_distinct(alloc: Global, names: &[Name]) -> Result<bool, AllocError>
+    ensures { IfOk result (λ distinct. IsTrue distinct ↔ AllPairs ◌≢◌ names.now) }
 {
-    names.iter().any(|name| word == name.bytes())
-}
-
-fn are_distinct(names: &[Name]) -> bool
-    ensures { IsTrue result ↔ AllPairs ◌≢◌ names.now }
-{
-    for i in 0..names.len() {
-        if is_among(&names[..i], names[i].bytes()) {
-            return false;
+    let mut seen = BTreeSet::new(alloc);
+    for name in names {
+        if !seen.insert(name.bytes())? {
+            return Ok(false);
         }
     }
-    true
+    Ok(true)
 }
 
 /// Whether each name is a word that may be one, and no two are the same.
-pub(crate) fn are_names(names: &[Name]) -> bool
-    ensures { IsTrue result ↔ (All IsName names.now × AllPairs ◌≢◌ names.now) }
+pub(crate) fn are_names(alloc: Global, names: &[Name]) -> Result<bool, NoMemory>
+    ensures { IfOk result (λ yes. IsTrue yes ↔ AreNames names.now) }
 {
-    names.iter().all(|name| is_name(name.bytes())) && are_distinct(names)
+    if !names.iter().all(|name| is_name(name.bytes())) {
+        return Ok(false);
+    }
+    Ok(are_distinct(alloc, names)?)
 }

@@ -31,7 +31,7 @@ pub(crate) fn known_behind_what(known: usize, what: What) -> Option<usize>
 }
 
 /// How many names are known behind an expression.
-#[tactic(auto, using(crate::proofs::Known::known_parts, crate::proofs::Forms::names_of_forms))]
+#[tactic(auto, using(crate::specs::Known::known_parts, crate::proofs::Forms::names_of_forms))]
 pub(crate) fn known_behind_expression(known: usize, e: &Expr) -> Option<usize>
     ensures { result ≡ known_behind known (expression_names e.now) }
 {

@@ -1,25 +1,15 @@
 //! Whether the numbers of a problem can be spelled. That a number of 64 bits fits is known where it is read.
 ghost use Rattle.std.specs.Prelude.{◌↔◌, IsTrue, All, FitsSigned};
 ghost use Rattle.std.specs.Int.{w64};
-ghost use Rattle.std.specs.List.Sorted.{IsStrictlyIncreasing};
 ghost use Rattle.statement_parse.specs.Grammar.{AreNumbers};
 ghost use Rattle.problem_file.specs.Statements.{statements_of};
 ghost use Rattle.problem_printable.specs.Printable.{IsCorner, AreLayers, IsWhat, IsSayable};
 ghost use Rattle.problem_printable.specs.Parts.{IsHeadSayable, IsBoxSayable, IsLevelSayable, IsWriteSayable, IsTaskSayable, AreStatementsSayable};
 
 use crate::expressions::is_sayable;
-use problem_types::{BoxLine, Ghost, GhostKind, Level, Problem, Require, Task, Var, What, Write};
-
-fn is_ascending(numbers: &[u64]) -> bool
-    ensures { IsTrue result ↔ IsStrictlyIncreasing numbers.now }
-{
-    for i in 1..numbers.len() {
-        if numbers[i - 1] >= numbers[i] {
-            return false;
-        }
-    }
-    true
-}
+use problem_types::{
+    BoxLine, Ghost, GhostKind, Level, Problem, Require, Task, Var, What, Write, is_ascending,
+};
 
 fn are_numbers(numbers: &[u64]) -> bool
     ensures { IsTrue result ↔ AreNumbers numbers.now }

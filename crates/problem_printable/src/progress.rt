@@ -80,7 +80,7 @@ impl Statement for Write {
         self.line
     }
 
-    #[tactic(auto, using(crate::proofs::Known::known_head))]
+    #[tactic(auto, using(crate::specs::Known::known_head))]
     fn known_behind(&self, known: usize) -> Option<usize> {
         let known = known_behind_name(known, self.name)?;
         known_behind_expression(known, &self.expr)

@@ -1,7 +1,7 @@
 //! Reads a problem text from standard input and writes it in its printed form: a trial of reading and printing.
 #![tactic(auto)]
 
-ghost use Rattle.std.specs.Prelude.{◌≡◌, ◌<◌, ◌^◌, ℕ, length, IfOk, Err};
+ghost use Rattle.std.specs.Prelude.{◌≡◌, ◌⊎◌, ◌<◌, ◌^◌, ℕ, length, IfOk, Err};
 ghost use Rattle.problem_types.specs.declared.problem.Problem.{Problem};
 ghost use Rattle.problem_file.specs.Grammar.{Spells, IsBadLine};
 ghost use Rattle.problem_print.specs.Printed.{printed_text};
@@ -18,8 +18,10 @@ const MOST_BYTES: usize = 1_048_576;
 /// The printed form of the problem that a text spells.
 fn printed(alloc: Global, text: &[u8]) -> Result<Vec<u8>, ParseFault>
     requires { length text.now < 2 ^ 31 }
-    ensures printed { IfOk result (λ bytes. (p : Problem) × Spells text.now p × (bytes.items ≡ printed_text p)) }
+    ensures printed { IfOk result (λ bytes. (p : Problem) × Spells text.now p × Spells bytes.items p × (bytes.items ≡ printed_text p)) }
     ensures bad_text { (line : ℕ) → result ≡ Err (ParseFault.BadText line) → IsBadLine text.now line }
+    ensures bad_text_only { (line : ℕ) → IsBadLine text.now line
+        → (result ≡ Err (ParseFault.BadText line)) ⊎ (result ≡ Err ParseFault.NoMemory) }
 {
     let problem = parse(alloc, text)?;
     Ok(print(alloc, &problem)?)

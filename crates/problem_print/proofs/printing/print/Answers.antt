@@ -15,3 +15,6 @@ returns-in-Ok-clause-spelled c =
     let p = c.args.p.now in
     subst (λ (text : List ℕ). Spells text p) (sym (returns-in-Ok-clause-printed c))
     (c.printed_text_is_read.ensures p (c.spelled_can_be_printed.ensures p c.requires))
+
+pub returns-in-Ok-clause-read_again : goal.returns-in-Ok-clause-read_again
+returns-in-Ok-clause-read_again c = λ q spells. c.one_problem.ensures _ q c.args.p.now spells (returns-in-Ok-clause-spelled c)

@@ -1,6 +1,7 @@
-use Rattle.std.proofs.Common.{◌≢◌, AllPairs, take}
+use Rattle.std.proofs.Common.{take}
+use Rattle.problem_printable.proofs.Distinct.{HasSeen}
 use Rattle.problem_printable.proofs.names.are_distinct.Given as goal
 
--- the names so far are distinct
-abbrev pub invariant-loop-i : goal.invariant-loop-i
-invariant-loop-i l = AllPairs ◌≢◌ (take l.i l.names)
+-- the names so far are distinct and in the set
+abbrev pub invariant-loop-name : goal.invariant-loop-name
+invariant-loop-name l = HasSeen l.seen (take l.name-index l.names)
