@@ -1,50 +1,13 @@
 -- What limits of a whole expression ask of its parts.
-use Rattle.std.proofs.Common.{◌≡◌, ◌≢◌, ℕ, ◌-◌, ◌<◌, Bool, true, false, ◌∙◌, sym, ap, arith, ◌↔◌, ◌⊎◌, inl, inr, Option, Some, None}
+use Rattle.std.proofs.Common.{◌≡◌, ◌≢◌, ℕ, ◌-◌, Bool, true, false, ◌∙◌, sym, ap, arith, ◌↔◌, ◌⊎◌, inl, inr, Option, Some, None}
 use Rattle.std.proofs.lemmas.Bool.{and_parts, and_from}
 use Rattle.std.specs.Bool.{then_some}
 use Rattle.std.specs.Option.{SomeIff}
-use Rattle.kernel_ast.specs.Size.{depth_over, nodes_over, depth_of, node_count, depth_at_form, nodes_at_form, depth_of-X, depth_of-Y, depth_of-Z, depth_of-Level, depth_of-Material, depth_of-Step, depth_of-Neg, depth_of-Binary, depth_of-Select, node_count-X, node_count-Y, node_count-Z, node_count-Level, node_count-Material, node_count-Step, node_count-Neg, node_count-Binary, node_count-Select}
+use Rattle.kernel_ast.specs.Size.{depth_of, node_count, depth_of_positive, node_count_positive, depth_of-X, depth_of-Y, depth_of-Z, depth_of-Level, depth_of-Material, depth_of-Step, depth_of-Neg, depth_of-Binary, depth_of-Select, node_count-X, node_count-Y, node_count-Z, node_count-Level, node_count-Material, node_count-Step, node_count-Neg, node_count-Binary, node_count-Select}
 use Rattle.kernel_ast.specs.Form.{IsWithin, are_leaves_in_form, are_leaves_in_form-X, are_leaves_in_form-Y, are_leaves_in_form-Z, are_leaves_in_form-Level, are_leaves_in_form-Material, are_leaves_in_form-Step, are_leaves_in_form-Neg, are_leaves_in_form-Binary, are_leaves_in_form-Select}
 use Rattle.kernel_ast.specs.declared.expression.Op.{Op}
 use Rattle.kernel_ast.specs.declared.expression.Expr.{Expr}
-use Rattle.kernel_ast.specs.declared.expression.Expr.TheOpen.{Expr-F, Literal, X, Y, Z, Level, Material, Step, Read, Number, Neg, Binary, Select}
 use Rattle.kernel_ast.specs.declared.expression.Expr.TheVariants as expr
-use Rattle.kernel_ast.specs.declared.expression.Expr.TheViews.{out-Expr, roll-out-Expr}
-
-depth_over_positive : (d : Expr-F ℕ) → 0 < depth_over d
-depth_over_positive (Literal n) = omega arith
-depth_over_positive X = omega arith
-depth_over_positive Y = omega arith
-depth_over_positive Z = omega arith
-depth_over_positive Level = omega arith
-depth_over_positive Material = omega arith
-depth_over_positive Step = omega arith
-depth_over_positive (Read r) = omega arith
-depth_over_positive (Number store name) = omega arith
-depth_over_positive (Neg a) = omega arith
-depth_over_positive (Binary o a b) = omega arith
-depth_over_positive (Select c a b) = omega arith
-
-nodes_over_positive : (d : Expr-F ℕ) → 0 < nodes_over d
-nodes_over_positive (Literal n) = omega arith
-nodes_over_positive X = omega arith
-nodes_over_positive Y = omega arith
-nodes_over_positive Z = omega arith
-nodes_over_positive Level = omega arith
-nodes_over_positive Material = omega arith
-nodes_over_positive Step = omega arith
-nodes_over_positive (Read r) = omega arith
-nodes_over_positive (Number store name) = omega arith
-nodes_over_positive (Neg a) = omega arith
-nodes_over_positive (Binary o a b) = omega arith
-nodes_over_positive (Select c a b) = omega arith
-
--- an expression has a level and a node at least
-pub depth_of_positive : (e : Expr) → 0 < depth_of e
-depth_of_positive e = rw (depth_at_form (out-Expr e) (roll-out-Expr e)) (depth_over_positive _)
-
-pub node_count_positive : (e : Expr) → 0 < node_count e
-node_count_positive e = rw (nodes_at_form (out-Expr e) (roll-out-Expr e)) (nodes_over_positive _)
 
 module _ (names depth nodes : ℕ) where
   -- nothing is within no depth, or within no nodes

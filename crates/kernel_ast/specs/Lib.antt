@@ -1,5 +1,5 @@
+pub mod Arithmetic
 pub mod Folds
-pub mod Index
 pub mod Value
 pub mod Size
 pub mod Form

@@ -1,5 +1,6 @@
 -- How large an expression is. Parentheses of the text leave nothing in it.
-use Rattle.std.specs.Prelude.{◌≡◌, ℕ, ℤ, ◌+◌, max}
+use Rattle.std.specs.Prelude.{◌≡◌, ℕ, ℤ, ◌+◌, ◌<◌, max}
+use Rattle.std.proofs.Common.{arith}
 use Rattle.kernel_ast.specs.Folds.{fold-at_form}
 use Rattle.kernel_ast.specs.declared.expression.Store.{Store}
 use Rattle.kernel_ast.specs.declared.expression.Read.{Read}
@@ -7,7 +8,7 @@ use Rattle.kernel_ast.specs.declared.expression.Op.{Op}
 use Rattle.kernel_ast.specs.declared.expression.Expr.{Expr}
 use Rattle.kernel_ast.specs.declared.expression.Expr.TheOpen.{Expr-F, Literal, X, Y, Z, Level, Material, Step, Read as Reading, Number, Neg, Binary, Select}
 use Rattle.kernel_ast.specs.declared.expression.Expr.TheVariants as expr
-use Rattle.kernel_ast.specs.declared.expression.Expr.TheViews.{roll-Expr}
+use Rattle.kernel_ast.specs.declared.expression.Expr.TheViews.{roll-Expr, out-Expr, roll-out-Expr}
 use Rattle.kernel_ast.specs.declared.expression.Expr.TheFolds.{fold-Expr, map-Expr}
 
 -- the depth of an expression over the depths of its parts
@@ -54,6 +55,41 @@ depth_at_form d made = fold-at_form depth_over d made
 pub nodes_at_form : {x : Expr} (d : Expr-F Expr) → roll-Expr d ≡ x → node_count x ≡ nodes_over (map-Expr Expr ℕ node_count d)
 unfolding node_count
 nodes_at_form d made = fold-at_form nodes_over d made
+
+depth_over_positive : (d : Expr-F ℕ) → 0 < depth_over d
+depth_over_positive (Literal n) = omega arith
+depth_over_positive X = omega arith
+depth_over_positive Y = omega arith
+depth_over_positive Z = omega arith
+depth_over_positive Level = omega arith
+depth_over_positive Material = omega arith
+depth_over_positive Step = omega arith
+depth_over_positive (Reading r) = omega arith
+depth_over_positive (Number store name) = omega arith
+depth_over_positive (Neg a) = omega arith
+depth_over_positive (Binary o a b) = omega arith
+depth_over_positive (Select c a b) = omega arith
+
+nodes_over_positive : (d : Expr-F ℕ) → 0 < nodes_over d
+nodes_over_positive (Literal n) = omega arith
+nodes_over_positive X = omega arith
+nodes_over_positive Y = omega arith
+nodes_over_positive Z = omega arith
+nodes_over_positive Level = omega arith
+nodes_over_positive Material = omega arith
+nodes_over_positive Step = omega arith
+nodes_over_positive (Reading r) = omega arith
+nodes_over_positive (Number store name) = omega arith
+nodes_over_positive (Neg a) = omega arith
+nodes_over_positive (Binary o a b) = omega arith
+nodes_over_positive (Select c a b) = omega arith
+
+-- an expression has a level and a node at least
+pub depth_of_positive : (e : Expr) → 0 < depth_of e
+depth_of_positive e = rw (depth_at_form (out-Expr e) (roll-out-Expr e)) (depth_over_positive _)
+
+pub node_count_positive : (e : Expr) → 0 < node_count e
+node_count_positive e = rw (nodes_at_form (out-Expr e) (roll-out-Expr e)) (nodes_over_positive _)
 
 pub depth_of-Literal : (n : ℤ) → depth_of (expr.Literal n) ≡ 1
 depth_of-Literal n = depth_at_form (Literal n) (expr.rolls-Literal n)

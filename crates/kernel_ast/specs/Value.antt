@@ -3,9 +3,8 @@ use Rattle.std.specs.Prelude.{◌≡◌, ℕ, ℤ, pos, Bool, true, false, not, 
 use Rattle.std.proofs.Common.{ap}
 use Rattle.std.specs.Int.{int_min, int_max}
 use Rattle.std.specs.Ordering.{int_eq}
-use Rattle.uts_num.specs.Arithmetic.{sum_of, difference_of, product_of, quotient_of, remainder_of}
+use Rattle.kernel_ast.specs.Arithmetic.{sum_of, difference_of, product_of, quotient_of, remainder_of}
 use Rattle.kernel_ast.specs.Folds.{fold-at_form}
-use Rattle.kernel_ast.specs.Index.{Index}
 use Rattle.kernel_ast.specs.declared.expression.Store.{Store}
 use Rattle.kernel_ast.specs.declared.expression.Read.{Read}
 use Rattle.kernel_ast.specs.declared.expression.Op.{Op}
@@ -16,9 +15,11 @@ use Rattle.kernel_ast.specs.declared.expression.Expr.TheVariants as expr
 use Rattle.kernel_ast.specs.declared.expression.Expr.TheViews.{roll-Expr}
 use Rattle.kernel_ast.specs.declared.expression.Expr.TheFolds.{fold-Expr, map-Expr}
 
--- where a kernel runs, and what its reads give
+-- where a kernel runs, by the coordinates of its index, and what its reads give
 pub record Environment : Type 0 where
-  pub at : Index
+  pub x : ℤ
+  pub y : ℤ
+  pub z : ℤ
   pub level : ℕ
   pub material : ℕ
   pub step : ℕ
@@ -48,9 +49,9 @@ result_of op.Max a b = int_max a b
 -- the number of an expression whose parts are known as functions of the environment
 abbrev pub number_of : Expr-F (Environment → ℤ) → Environment → ℤ
 number_of (Literal n) e = n
-number_of X e = e.at.x
-number_of Y e = e.at.y
-number_of Z e = e.at.z
+number_of X e = e.x
+number_of Y e = e.y
+number_of Z e = e.z
 number_of Level e = pos e.level
 number_of Material e = pos e.material
 number_of Step e = pos e.step
@@ -73,13 +74,13 @@ value_at_form d made e = ap (λ (f : Environment → ℤ). f e) (fold-at_form nu
 pub value_of-Literal : (n : ℤ) (e : Environment) → value_of (expr.Literal n) e ≡ n
 value_of-Literal n e = value_at_form (Literal n) (expr.rolls-Literal n) e
 
-pub value_of-X : (e : Environment) → value_of expr.X e ≡ e.at.x
+pub value_of-X : (e : Environment) → value_of expr.X e ≡ e.x
 value_of-X e = value_at_form X expr.rolls-X e
 
-pub value_of-Y : (e : Environment) → value_of expr.Y e ≡ e.at.y
+pub value_of-Y : (e : Environment) → value_of expr.Y e ≡ e.y
 value_of-Y e = value_at_form Y expr.rolls-Y e
 
-pub value_of-Z : (e : Environment) → value_of expr.Z e ≡ e.at.z
+pub value_of-Z : (e : Environment) → value_of expr.Z e ≡ e.z
 value_of-Z e = value_at_form Z expr.rolls-Z e
 
 pub value_of-Level : (e : Environment) → value_of expr.Level e ≡ pos e.level

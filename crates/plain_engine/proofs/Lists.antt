@@ -1,13 +1,14 @@
 -- Lists over the numbers below a bound: equal items, items by place, and the words of spans.
-use Rattle.std.proofs.Common.{◌≡◌, ◌∙◌, ◌≤◌, ◌<◌, ◌+◌, ◌-◌, ◌*◌, ◌⊎◌, inl, inr, ℕ, zero, suc, ℤ, pos, List, [], ◌∷◌, ◌++◌, map, length, slice_index_or, ap, sym, refl, arith, append-nil, length-append}
+use Rattle.std.proofs.Common.{true, if◌then◌else◌, ◌≡◌, ◌∙◌, ◌≤◌, ◌<◌, ◌+◌, ◌-◌, ◌*◌, ◌⊎◌, inl, inr, ℕ, zero, suc, ℤ, pos, List, [], ◌∷◌, ◌++◌, map, length, slice_index_or, ap, sym, refl, arith, append-nil, length-append}
 use Rattle.std.proofs.Math.Nat.{eq-or-lt_of_le, mul-suc, mul-le-mul_left}
+use Rattle.std.specs.Prelude.{int_lt}
 use Rattle.std.specs.List.{flat_map}
 use Rattle.std.proofs.lemmas.Grind.{flat_map-append}
 use Rattle.std.proofs.lemmas.List.{map-append, get_or-append_right}
 use Rattle.std.proofs.Math.ListN.{get_or-append}
-use Rattle.kernel_ast.specs.Index.{Index}
-use Rattle.problem_types.specs.Index.{counted, from_to, by_rows, row_of}
-use Rattle.problem_types.specs.Dump.{row_line}
+use Rattle.uts_geom.specs.declared.index.Index.{Index}
+use Rattle.uts_geom.specs.Spans.{index, counted, from_to, row_indexes, all_rows}
+use Rattle.problem_types.specs.Dump.{row_line, rows_text}
 use Rattle.plain_engine.specs.Stored.{cells_of}
 use Rattle.plain_engine.specs.Below.{listed, joined}
 use Rattle.plain_engine.specs.Cells.{cell, row_of_cells, numbers_of_cells, lines_of_cells}
@@ -58,26 +59,70 @@ flat_map-counted f (suc n) =
     ∙ ap (λ k. flat_map f (counted 0 n) ++ f k) (let e : 0 + n ≡ n = omega arith in e)
     ∙ ap (λ t. t ++ f n) (flat_map-counted f n)
 
--- the rows of a span from 0 0 0 up
-pub by_rows-cells : {A : Type 0} (x y z : ℕ) (row : ℕ → ℕ → List A) →
-    by_rows (cells_of x y z) row ≡ joined (λ k. joined (λ j. row j k) y) z
-by_rows-cells x y z row =
-    ap (flat_map (λ k. flat_map (λ j. row j k) (from_to 0 y))) (ap (counted 0) (let e : z - 0 ≡ z = omega arith in e))
-    ∙ flat_map-counted (λ k. flat_map (λ j. row j k) (from_to 0 y)) z
-    ∙ joined-ext _ _ z (λ k h.
-    ap (flat_map (λ j. row j k)) (ap (counted 0) (let e : y - 0 ≡ y = omega arith in e))
-    ∙ flat_map-counted (λ j. row j k) y)
+map-listed : {A B : Type 0} (g : A → B) (f : ℕ → A) (n : ℕ) → map g (listed f n) ≡ listed (λ k. g (f k)) n
+map-listed g f zero = refl
+map-listed g f (suc n) = map-append g (listed f n) (f n ∷ []) ∙ ap (λ t. t ++ g (f n) ∷ []) (map-listed g f n)
 
-pub row_of-cells : (f : Index → ℤ) (x y z b c : ℕ) → row_of f (cells_of x y z) b c ≡ row_of_cells f x b c
-row_of-cells f x y z b c =
-    ap (map (λ a. f (cell a b c))) (ap (counted 0) (let e : x - 0 ≡ x = omega arith in e))
-    ∙ map-counted (λ a. f (cell a b c)) x
+flat_map-listed : {A B : Type 0} (g : A → List B) (f : ℕ → A) (n : ℕ) → flat_map g (listed f n) ≡ joined (λ k. g (f k)) n
+flat_map-listed g f zero = refl
+flat_map-listed g f (suc n) =
+    flat_map-append g (listed f n) (f n ∷ [])
+    ∙ ap (λ t. flat_map g (listed f n) ++ t) (append-nil (g (f n)))
+    ∙ ap (λ t. t ++ g (f n)) (flat_map-listed g f n)
 
-pub lines-cells : (f : Index → ℤ) (x y z : ℕ) →
-    by_rows (cells_of x y z) (λ b c. row_line (row_of f (cells_of x y z) b c)) ≡ lines_of_cells f x y z
-lines-cells f x y z =
-    by_rows-cells x y z (λ b c. row_line (row_of f (cells_of x y z) b c))
-    ∙ joined-ext _ _ z (λ c in_z. joined-ext _ _ y (λ b in_y. ap row_line (row_of-cells f x y z b c)))
+flat_map-joined : {A B : Type 0} (g : A → List B) (f : ℕ → List A) (n : ℕ) →
+    flat_map g (joined f n) ≡ joined (λ k. flat_map g (f k)) n
+flat_map-joined g f zero = refl
+flat_map-joined g f (suc n) =
+    flat_map-append g (joined f n) (f n) ∙ ap (λ t. t ++ flat_map g (f n)) (flat_map-joined g f n)
+
+-- the coordinates from 0 up
+from_to-zero : (n : ℕ) → from_to (pos 0) (pos n) ≡ listed pos n
+from_to-zero n =
+    ap (λ count. map (λ k. pos (0 + k)) (counted 0 count)) (let e : n - 0 ≡ n = omega arith in e)
+    ∙ map-counted (λ k. pos (0 + k)) n
+    ∙ listed-ext (λ k. pos (0 + k)) pos n (λ k h. ap pos (let e : 0 + k ≡ k = omega arith in e))
+
+module _ (f : Index → ℤ) (x y z : ℕ) where
+  -- the numbers along a row
+  row-cells : (b c : ℕ) → map f (row_indexes (cells_of x y z) (pos b) (pos c)) ≡ row_of_cells f x b c
+  row-cells b c =
+      ap (λ t. map f (map (λ k. index k (pos b) (pos c)) t)) (from_to-zero x)
+      ∙ ap (map f) (map-listed (λ k. index k (pos b) (pos c)) pos x)
+      ∙ map-listed f (λ a. cell a b c) x
+
+  -- the line of a row
+  line_of : ℤ × ℤ → List ℕ
+  line_of row = row_line (map f (row_indexes (cells_of x y z) row.0 row.1))
+
+  line-cells : (b c : ℕ) → line_of (pos b, pos c) ≡ row_line (row_of_cells f x b c)
+  unfolding line_of
+  line-cells b c = ap row_line (row-cells b c)
+
+  -- the lines of the rows with one z
+  plane-cells : (c : ℕ) →
+      flat_map line_of (flat_map (λ (b : ℤ). (b, pos c) ∷ []) (from_to (pos 0) (pos y))) ≡ joined (λ b. row_line (row_of_cells f x b c)) y
+  plane-cells c =
+      let rows : ℕ → List (ℤ × ℤ) = λ b. (pos b, pos c) ∷ [] in
+      ap (λ t. flat_map line_of (flat_map (λ (b : ℤ). (b, pos c) ∷ []) t)) (from_to-zero y)
+      ∙ ap (flat_map line_of) (flat_map-listed (λ (b : ℤ). (b, pos c) ∷ []) pos y)
+      ∙ flat_map-joined line_of rows y
+      ∙ joined-ext _ _ y (λ b h. append-nil (line_of (pos b, pos c)) ∙ line-cells b c)
+
+  all-cells : flat_map line_of (all_rows (cells_of x y z)) ≡ lines_of_cells f x y z
+  all-cells =
+      let planes : ℤ → List (ℤ × ℤ) = λ c. flat_map (λ b. (b, c) ∷ []) (from_to (pos 0) (pos y)) in
+      ap (λ t. flat_map line_of (flat_map planes t)) (from_to-zero z)
+      ∙ ap (flat_map line_of) (flat_map-listed planes pos z)
+      ∙ flat_map-joined line_of (λ c. planes (pos c)) z
+      ∙ joined-ext _ _ z (λ c h. plane-cells c)
+
+  -- the lines of all rows of the cells from 0 0 0 up
+  pub lines-cells : 0 < x → rows_text (cells_of x y z) f ≡ lines_of_cells f x y z
+  unfolding rows_text line_of
+  lines-cells some =
+      let wide : int_lt (pos 0) (pos x) ≡ true = grind arith in
+      ap (λ b. flat_map line_of (if b then all_rows (cells_of x y z) else [])) wide ∙ all-cells
 
 -- items by place, in lists of one length
 module _ {A : Type 0} (f : ℕ → List A) (w : ℕ) (d : A) (even : (j : ℕ) → length (f j) ≡ w) where

@@ -1,13 +1,12 @@
 -- A step of the engine, and the whole dump, as the definitions have them.
-use Rattle.std.proofs.Common.{◌≡◌, ◌∙◌, ◌+◌, ◌%◌, ℕ, zero, suc, ℤ, true, List, [], ◌++◌, ◌==◌, ◌||◌, if◌then◌else◌, ap, sym, refl, arith, append-nil, append_assoc, codes}
+use Rattle.std.proofs.Common.{◌<◌, slice_index, ◌≡◌, ◌∙◌, ◌+◌, ◌%◌, ℕ, zero, suc, ℤ, true, List, [], ◌++◌, ◌==◌, ◌||◌, if◌then◌else◌, ap, sym, refl, arith, append-nil, append_assoc, codes}
 use Rattle.std.proofs.Math.Nat.{mod-one}
 use Rattle.std.specs.List.{flat_map}
-use Rattle.kernel_ast.specs.Index.{Index}
-use Rattle.problem_types.specs.Index.{counted}
+use Rattle.uts_geom.specs.declared.index.Index.{Index}
+use Rattle.uts_geom.specs.Spans.{counted}
 use Rattle.problem_types.specs.Lists.{is_dumped}
 use Rattle.problem_types.specs.Dump.{line, dump_text, step_text, step_line, field_line}
-use Rattle.problem_types.specs.Thin.{thin_problem}
-use Rattle.problem_types.specs.declared.thin.Thin.{Thin}
+use Rattle.problem_types.specs.Thin.{Thin, thin_problem}
 use Rattle.plain_engine.specs.Stored.{cells_of}
 use Rattle.plain_engine.specs.Below.{joined}
 use Rattle.plain_engine.specs.Cells.{cell, numbers_of_cells}
@@ -65,14 +64,14 @@ module _ (s : Sweep) (parts : Parts) (step : ℕ) (numbers : List ℤ) (is : IsS
 -- wherever the statements of the problem stand
 module _ (line_of : ℕ → ℕ) where
   -- a step that gives what the problem means adds what the dump has for it
-  pub next_text-thin : (t : Thin) (parts : Parts) (are : ArePartsOf parts t) (n : ℕ) (numbers : List ℤ) →
+  pub next_text-thin : (t : Thin) (parts : Parts) (are : ArePartsOf parts t) (n : ℕ) (numbers : List ℤ) → 0 < slice_index t.size 0 →
       AgreeAtCells (next_number parts n numbers) (field_of line_of t n) parts.x parts.y parts.z →
       next_text parts n numbers ≡ step_text (thin_problem t line_of) n
   unfolding next_text
-  next_text-thin t parts are n numbers agree =
+  next_text-thin t parts are n numbers some agree =
       ap (λ l. (step_line n ++ field_line parts.name.now 0 0 (cells_of parts.x parts.y parts.z)) ++ l)
       (lines_of_cells-ext (next_number parts n numbers) (field_of line_of t n) parts.x parts.y parts.z agree)
-      ∙ rw (are.name, are.along_x, are.along_y, are.along_z) (sym (step_text-thin line_of t n))
+      ∙ rw (are.name, are.along_x, are.along_y, are.along_z) (sym (step_text-thin line_of t n some))
 
   -- the numbers before a step are those of the step before
   abbrev pub AreBefore : Thin → Parts → ℕ → List ℤ → Type 0
@@ -84,9 +83,9 @@ module _ (line_of : ℕ → ℕ) where
   agree t parts are (suc m) numbers before = later_numbers line_of t parts are m numbers (before m refl)
 
   -- a step then adds what the dump has for it, and leaves what the problem means at its end
-  pub next_text-before : (t : Thin) (parts : Parts) (are : ArePartsOf parts t) (n : ℕ) (numbers : List ℤ) → AreBefore t parts n numbers →
-      next_text parts n numbers ≡ step_text (thin_problem t line_of) n
-  next_text-before t parts are n numbers before = next_text-thin t parts are n numbers (agree t parts are n numbers before)
+  pub next_text-before : (t : Thin) (parts : Parts) (are : ArePartsOf parts t) (n : ℕ) (numbers : List ℤ) → 0 < slice_index t.size 0 →
+      AreBefore t parts n numbers → next_text parts n numbers ≡ step_text (thin_problem t line_of) n
+  next_text-before t parts are n numbers some before = next_text-thin t parts are n numbers some (agree t parts are n numbers before)
 
   pub numbers_after : (t : Thin) (parts : Parts) (are : ArePartsOf parts t) (n : ℕ) (numbers next : List ℤ) → AreBefore t parts n numbers →
       next ≡ numbers_of_cells (next_number parts n numbers) parts.x parts.y parts.z → AreBefore t parts (n + 1) next

@@ -1,20 +1,19 @@
 -- What a thin problem means, in terms of its parts.
 use Rattle.std.proofs.Common.{◌≡◌, ◌∙◌, ◌⊎◌, inl, inr, ◌<◌, ◌+◌, ◌*◌, ℕ, zero, suc, ℤ, pos, true, false, List, [], ◌∷◌, ◌++◌, ◌==◌, if◌then◌else◌, slice_index, ap, sym, refl, arith, append-nil, append_assoc, codes}
-use Rattle.kernel_ast.specs.Index.{Index}
-use Rattle.problem_types.specs.Index.{Span, is_between, is_inside, moved, offset_of}
+use Rattle.uts_geom.specs.declared.index.Index.{Index}
+use Rattle.uts_geom.specs.Spans.{is_between, is_inside}
+use Rattle.uts_geom.specs.declared.span.Span.{Span}
+use Rattle.problem_types.specs.Regions.{moved, offset_of}
 use Rattle.kernel_ast.specs.Value.{Environment, value_of, result_of, value_of-Literal, value_of-Read, value_of-Binary}
 use Rattle.problem_types.specs.WholeField.{unset, nothing, environment, after_task, end_of_step}
 use Rattle.problem_types.specs.Dump.{step_text, step_line, field_line, field_text}
-use Rattle.problem_types.specs.Thin.{thin_problem, term_expression, plus_terms, sum_expression}
+use Rattle.problem_types.specs.Thin.{Thin, Term, Literal, Old, thin_problem, term_expression, plus_terms, sum_expression}
 use Rattle.kernel_ast.specs.declared.expression.Expr.{Expr}
 use Rattle.kernel_ast.specs.declared.expression.Store.TheVariants.{Old as OldStore}
 use Rattle.kernel_ast.specs.declared.expression.How.TheVariants.{Same}
 use Rattle.kernel_ast.specs.declared.expression.Read.{Read}
 use Rattle.kernel_ast.specs.declared.expression.Op.TheVariants.{Add}
 use Rattle.kernel_ast.specs.declared.expression.Expr.TheVariants.{Binary}
-use Rattle.problem_types.specs.declared.thin.Thin.{Thin}
-use Rattle.problem_types.specs.declared.thin.Term.{Term}
-use Rattle.problem_types.specs.declared.thin.Term.TheVariants.{Literal, Old}
 use Rattle.plain_engine.specs.Stored.{cells_of, stored, thin_environment}
 use Rattle.plain_engine.specs.Cells.{cell, numbers_of_cells, lines_of_cells}
 use Rattle.plain_engine.specs.Parts.{ArePartsOf, next_number}
@@ -64,9 +63,9 @@ module _ (line_of : ℕ → ℕ) where
       numbers : List ℤ
       numbers = numbers_of_cells (field_of t n) (slice_index t.size 0) (slice_index t.size 1) (slice_index t.size 2)
 
-      by_axes : ((a : ℕ) × (a < x) × (i.x ≡ pos a)) ⊎ (is_between 0 x i.x ≡ false) →
-          ((b : ℕ) × (b < y) × (i.y ≡ pos b)) ⊎ (is_between 0 y i.y ≡ false) →
-          ((c : ℕ) × (c < z) × (i.z ≡ pos c)) ⊎ (is_between 0 z i.z ≡ false) →
+      by_axes : ((a : ℕ) × (a < x) × (i.x ≡ pos a)) ⊎ (is_between (pos 0) (pos x) i.x ≡ false) →
+          ((b : ℕ) × (b < y) × (i.y ≡ pos b)) ⊎ (is_between (pos 0) (pos y) i.y ≡ false) →
+          ((c : ℕ) × (c < z) × (i.z ≡ pos c)) ⊎ (is_between (pos 0) (pos z) i.z ≡ false) →
           stored (cells_of_thin t) t.outside (numbers_of_cells (field_of t n) x y z) i ≡ field_of t n i
       by_axes (inr beside) on_y on_z =
           stored_beside_x x y z t.outside numbers i beside ∙ sym (field_outside t n i (beside_x x y z i beside))
@@ -151,20 +150,22 @@ module _ (line_of : ℕ → ℕ) where
     shown : List ℕ
     shown = field_text (codes "u") 0 0 (cells_of_thin t) (field_of t n)
 
-    shown-is : step_line n ++ (((shown ++ []) ++ []) ++ [])
+    shown-is : 0 < slice_index t.size 0 → step_line n ++ ((((shown ++ []) ++ []) ++ []) ++ [])
         ≡ (step_line n ++ field_line (codes "u") 0 0 (cells_of_thin t))
         ++ lines_of_cells (field_of t n) (slice_index t.size 0) (slice_index t.size 1) (slice_index t.size 2)
     unfolding shown
-    shown-is =
+    shown-is some =
         let header = field_line (codes "u") 0 0 (cells_of_thin t) in
         let lines = lines_of_cells (field_of t n) (slice_index t.size 0) (slice_index t.size 1) (slice_index t.size 2) in
-        ap (λ t. step_line n ++ t) (append-nil ((shown ++ []) ++ []) ∙ append-nil (shown ++ []) ∙ append-nil shown)
-        ∙ ap (λ l. step_line n ++ (header ++ l)) (lines-cells (field_of t n) (slice_index t.size 0) (slice_index t.size 1) (slice_index t.size 2))
+        ap (λ t. step_line n ++ t)
+        (append-nil (((shown ++ []) ++ []) ++ []) ∙ append-nil ((shown ++ []) ++ []) ∙ append-nil (shown ++ []) ∙ append-nil shown)
+        ∙ ap (λ l. step_line n ++ (header ++ l))
+        (lines-cells (field_of t n) (slice_index t.size 0) (slice_index t.size 1) (slice_index t.size 2) some)
         ∙ sym (append_assoc (step_line n) header lines)
 
-  pub step_text-thin : (t : Thin) (n : ℕ) → step_text (thin_problem t line_of) n
+  pub step_text-thin : (t : Thin) (n : ℕ) → 0 < slice_index t.size 0 → step_text (thin_problem t line_of) n
       ≡ (step_line n ++ field_line (codes "u") 0 0 (cells_of_thin t))
       ++ lines_of_cells (field_of t n) (slice_index t.size 0) (slice_index t.size 1) (slice_index t.size 2)
   unfolding step_text shown
-  step_text-thin t zero = shown-is t zero
-  step_text-thin t (suc n) = shown-is t (suc n)
+  step_text-thin t zero some = shown-is t zero some
+  step_text-thin t (suc n) some = shown-is t (suc n) some

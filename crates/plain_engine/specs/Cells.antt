@@ -1,11 +1,12 @@
 -- A function's numbers over the cells from 0 0 0 up, so many along each axis.
 use Rattle.std.specs.Prelude.{ℕ, ℤ, pos, List}
-use Rattle.kernel_ast.specs.Index.{Index}
+use Rattle.uts_geom.specs.Spans.{index}
+use Rattle.uts_geom.specs.declared.index.Index.{Index}
 use Rattle.problem_types.specs.Dump.{row_line}
 use Rattle.plain_engine.specs.Below.{listed, joined}
 
 abbrev pub cell : ℕ → ℕ → ℕ → Index
-cell x y z = record { x = pos x; y = pos y; z = pos z }
+cell x y z = index (pos x) (pos y) (pos z)
 
 -- along a row, by ascending x
 abbrev pub row_of_cells : (Index → ℤ) → ℕ → ℕ → ℕ → List ℤ

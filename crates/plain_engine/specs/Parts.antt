@@ -1,11 +1,10 @@
 -- What the run of a thin problem needs of it.
 use Rattle.std.specs.Prelude.{◌≡◌, ℕ, ℤ, List, ◌++◌, ◌==◌, if◌then◌else◌, codes, slice_index}
-use Rattle.kernel_ast.specs.Index.{Index}
+use Rattle.uts_geom.specs.declared.index.Index.{Index}
 use Rattle.problem_types.specs.Dump.{step_line, field_line}
 use Rattle.kernel_ast.specs.Value.{value_of}
-use Rattle.problem_types.specs.Thin.{sum_expression}
+use Rattle.problem_types.specs.Thin.{Thin, sum_expression}
 use Rattle.kernel_ast.specs.declared.expression.Expr.TheVariants.{Literal as Constant}
-use Rattle.problem_types.specs.declared.thin.Thin.{Thin}
 use Rattle.plain_engine.specs.Stored.{cells_of, thin_environment}
 use Rattle.plain_engine.specs.Cells.{lines_of_cells}
 use Rattle.plain_engine.specs.declared.parts.Parts.{Parts}

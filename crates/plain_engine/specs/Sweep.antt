@@ -1,7 +1,7 @@
 -- The numbers that a kernel gives over the cells of a field, and their text.
 use Rattle.std.specs.Prelude.{ℕ, ℤ, List, ◌++◌}
-use Rattle.kernel_ast.specs.Index.{Index}
-use Rattle.problem_types.specs.Index.{Span}
+use Rattle.uts_geom.specs.declared.index.Index.{Index}
+use Rattle.uts_geom.specs.declared.span.Span.{Span}
 use Rattle.kernel_ast.specs.Value.{value_of}
 use Rattle.problem_types.specs.Dump.{step_line, field_line, row_line}
 use Rattle.plain_engine.specs.Stored.{cells_of, thin_environment}

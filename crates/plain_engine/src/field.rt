@@ -1,5 +1,6 @@
 ghost use Rattle.std.specs.Prelude.{◌≡◌, ◌+◌, ◌*◌, ◌^◌, ◌+ℤ◌, ◌≤◌, ◌<◌, length, pos, false, MatchOption};
-ghost use Rattle.problem_types.specs.Index.{moved, offset_of, is_between};
+ghost use Rattle.uts_geom.specs.Spans.{is_between};
+ghost use Rattle.problem_types.specs.Regions.{moved, offset_of};
 ghost use Rattle.plain_engine.specs.Stored.{cells_of, stored};
 
 /// A field over the cells from 0 0 0 up: x goes fastest, then y, then z. Outside it has one number.
@@ -40,7 +41,7 @@ impl Field<'_> {
 #[inline]
 fn cell(n: i64, offset: i64, cells: usize) -> Option<usize>
     requires { cells ≤ 4096 }
-    ensures { MatchOption result (is_between 0 cells (n +ℤ offset) ≡ false) (λ k. (k < cells) × (n +ℤ offset ≡ pos k)) }
+    ensures { MatchOption result (is_between (pos 0) (pos cells) (n +ℤ offset) ≡ false) (λ k. (k < cells) × (n +ℤ offset ≡ pos k)) }
 {
     match n.checked_add(offset).map(usize::try_from) {
         Some(Ok(k)) if k < cells => Some(k),

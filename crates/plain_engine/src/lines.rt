@@ -1,4 +1,4 @@
-ghost use Rattle.std.specs.Prelude.{◌≡◌, ◌<◌, ◌^◌, ◌++◌, ◌∷◌, ℕ, decimal, OnOk};
+ghost use Rattle.std.specs.Prelude.{◌≡◌, ◌<◌, ◌^◌, ◌++◌, ◌∷◌, ℕ, pos, map, decimal, OnOk};
 ghost use Rattle.problem_types.specs.Dump.{step_line, field_line, spaced_numbers};
 ghost use Rattle.plain_engine.specs.Stored.{cells_of};
 ghost use Rattle.plain_engine.specs.Writing.{Writes};
@@ -47,7 +47,7 @@ pub fn put_field_line(
 
 // Puts numbers at the end of a line, each after a space.
 fn put_spaced(line: &mut Vec<u8>, numbers: &[u32]) -> Result<(), NoMemory>
-    ensures { OnOk result (line.new.items ≡ line.old.items ++ spaced_numbers numbers.now) }
+    ensures { OnOk result (line.new.items ≡ line.old.items ++ spaced_numbers (map pos numbers.now)) }
 {
     for n in numbers {
         put_after_space(line, *n)?;

@@ -1,6 +1,5 @@
 ghost use Rattle.std.specs.Prelude.{◌≡◌, ◌==◌, if◌then◌else◌, ◌<◌, ◌≤◌, ◌*◌, ℕ, Some, length, slice_get};
-ghost use Rattle.problem_types.specs.Thin.{IsThin, IsThinProblem, thin_problem};
-ghost use Rattle.problem_types.specs.declared.thin.Thin.{Thin};
+ghost use Rattle.problem_types.specs.Thin.{Thin, IsThin, IsThinProblem, thin_problem};
 
 use problem_types::{Expr, Problem};
 use sqlite_items::Items;

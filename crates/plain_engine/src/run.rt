@@ -1,8 +1,7 @@
 ghost use Rattle.std.specs.Prelude.{◌≡◌, ◌==◌, if◌then◌else◌, ◌+◌, ◌*◌, ◌≤◌, ℕ, [], length, OnOk, IfOk, IsErrOf};
 ghost use Rattle.uts_io.specs.Streams.{Rose, grown, GrewByPrefix};
 ghost use Rattle.problem_types.specs.Dump.{dump_text, step_text};
-ghost use Rattle.problem_types.specs.Thin.{IsThin, IsThinProblem, thin_problem};
-ghost use Rattle.problem_types.specs.declared.thin.Thin.{Thin};
+ghost use Rattle.problem_types.specs.Thin.{Thin, IsThin, IsThinProblem, thin_problem};
 ghost use Rattle.plain_engine.specs.Below.{joined};
 ghost use Rattle.plain_engine.specs.Cells.{numbers_of_cells};
 ghost use Rattle.plain_engine.specs.Parts.{ArePartsOf, next_number, next_text};

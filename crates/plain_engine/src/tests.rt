@@ -4,7 +4,10 @@ use crate::field::Field;
 use crate::step::write_step;
 use crate::sweep::Sweep;
 use crate::{RunFault, run_plain};
-use problem_types::{Expr, How, NoMemory, Op, Problem, Read, Store, Term, Thin, is_thin};
+use problem_types::{
+    BoxLine, Centring, Expr, Ghost, GhostKind, How, Keep, Level, Name, NoMemory, Num, Op, Problem,
+    Read, Require, Store, Task, Var, What, Write, WriteKind, is_thin,
+};
 use sqlite_items::{Boxed, Items};
 use std::alloc::{AllocError, Global};
 use std::test::Fail;
@@ -57,16 +60,20 @@ fn kernels_compute_as_the_arithmetic_says(rt: HostRuntime) -> Result<(), Fail> {
     Ok(())
 }
 
-#[test]
-fn a_step_of_two_rows(rt: HostRuntime) -> Result<(), Fail> {
-    let alloc = rt.alloc();
-    let below = Expr::Read(Read {
+// The variable at the end of the step before, at an offset.
+fn read(offset: [i64; 3]) -> Expr {
+    Expr::Read(Read {
         store: Store::Old,
         how: How::Same,
         name: 0,
-        offset: [0, -1, 0],
-    });
-    let left = Boxed::new(alloc, below)?;
+        offset,
+    })
+}
+
+#[test]
+fn a_step_of_two_rows(rt: HostRuntime) -> Result<(), Fail> {
+    let alloc = rt.alloc();
+    let left = Boxed::new(alloc, read([0, -1, 0]))?;
     let right = Boxed::new(alloc, Expr::Literal(1))?;
     let kernel = Expr::Binary(Op::Add, left, right);
     let field = Field {
@@ -96,20 +103,85 @@ fn a_step_of_two_rows(rt: HostRuntime) -> Result<(), Fail> {
     Ok(())
 }
 
+fn one<T: Drop>(alloc: Global, item: T) -> Result<Items<T>, AllocError> {
+    let mut items = Items::new(alloc);
+    items.push(item)?;
+    Ok(items)
+}
+
+// A list of the one task, that computes the variable.
+fn tasks(alloc: Global, name: u32, layers: u64, expr: Expr) -> Result<Items<Task>, AllocError> {
+    let mut requirements = Items::new(alloc);
+    if layers > 0 {
+        let kind = GhostKind::Cells;
+        requirements.push(Require {
+            line: 0,
+            store: Store::Old,
+            what: What::Same {
+                var: 0,
+                layers: Ghost { kind, n: layers },
+            },
+        })?;
+    }
+    let write = Write {
+        line: 0,
+        kind: WriteKind::Computes,
+        name: 0,
+        expr,
+    };
+    let task = Task {
+        line: 0,
+        name,
+        levels: one(alloc, 0)?,
+        materials: one(alloc, 0)?,
+        requirements,
+        writes: one(alloc, write)?,
+    };
+    one(alloc, task)
+}
+
 // Two cells that start at 3. In the one step each becomes one more than the cell before it.
 fn shifted(alloc: Global) -> Result<Problem, NoMemory> {
-    let mut terms = Items::new(alloc);
-    terms.push(Term::Old([-1, 0, 0]))?;
-    terms.push(Term::Literal(1))?;
-    let thin = Thin {
-        steps: 1,
-        ghost_cells: 1,
-        size: [2, 1, 1],
-        outside: -5,
-        start: 3,
-        terms,
+    let mut names = one(alloc, Name::new(alloc, b"u")?)?;
+    names.push(Name::new(alloc, b"start")?)?;
+    names.push(Name::new(alloc, b"shift")?)?;
+    let cells = BoxLine {
+        line: 0,
+        lo: [0, 0, 0],
+        hi: [2, 1, 1],
     };
-    thin.problem(alloc)
+    let level = Level {
+        line: 0,
+        ratio: 1,
+        boxes: one(alloc, cells)?,
+        patches: one(alloc, cells)?,
+    };
+    let variable = Var {
+        line: 0,
+        name: 0,
+        centring: Centring::Cell,
+        outside: -5,
+    };
+    let before = Boxed::new(alloc, read([-1, 0, 0]))?;
+    let sum = Expr::Binary(Op::Add, before, Boxed::new(alloc, Expr::Literal(1))?);
+    let once = Num { line: 0, value: 1 };
+    Ok(Problem {
+        names,
+        version: once,
+        steps: once,
+        dump: once,
+        ghost_limit: once,
+        materials: once,
+        levels: one(alloc, level)?,
+        vars: one(alloc, variable)?,
+        reductions: Items::new(alloc),
+        init_line: 0,
+        init: tasks(alloc, 1, 0, Expr::Literal(3))?,
+        timestep_line: 0,
+        timestep: tasks(alloc, 2, 1, sum)?,
+        keeps: one(alloc, Keep { line: 0, name: 0 })?,
+        end_line: 0,
+    })
 }
 
 // What the run of a problem gives, where it is one that is run.

@@ -9,8 +9,8 @@ use Rattle.kernel_ast.specs.Form.{IsExpressionInForm}
 use Rattle.kernel_ast.specs.declared.expression.Expr.{Expr}
 use Rattle.kernel_parse.specs.Signs.{word, number, sign}
 use Rattle.kernel_parse.specs.Grammar.{Words, SpellsExpression}
-use Rattle.problem_types.specs.declared.problem.Centring.{Centring}
-use Rattle.problem_types.specs.declared.problem.Centring.TheVariants as centring
+use Rattle.uts_geom.specs.declared.centring.Centring.{Centring}
+use Rattle.uts_geom.specs.declared.centring.Centring.TheVariants as centring
 use Rattle.problem_types.specs.declared.problem.Fold.{Fold}
 use Rattle.problem_types.specs.declared.problem.Fold.TheVariants as folds
 use Rattle.problem_types.specs.declared.problem.GhostKind.{GhostKind}

@@ -13,8 +13,8 @@ use Rattle.kernel_ast.specs.declared.expression.Expr.{Expr}
 use Rattle.kernel_ast.specs.declared.expression.Expr.TheOpen.{Expr-F, Literal, X, Y, Z, Level, Material, Step, Read as Reading, Number, Neg, Binary, Select}
 use Rattle.kernel_ast.specs.declared.expression.Expr.TheFolds.{fold-Expr}
 use Rattle.problem_types.specs.declared.problem.Problem.{Problem}
-use Rattle.problem_types.specs.declared.problem.Centring.{Centring}
-use Rattle.problem_types.specs.declared.problem.Centring.TheVariants as centring
+use Rattle.uts_geom.specs.declared.centring.Centring.{Centring}
+use Rattle.uts_geom.specs.declared.centring.Centring.TheVariants as centring
 use Rattle.problem_types.specs.declared.problem.Fold.{Fold}
 use Rattle.problem_types.specs.declared.problem.Fold.TheVariants as fold
 use Rattle.problem_types.specs.declared.problem.Ghost.{Ghost}

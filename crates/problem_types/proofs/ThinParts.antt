@@ -11,12 +11,12 @@ use Rattle.kernel_ast.specs.declared.expression.Expr.{Expr}
 use Rattle.kernel_ast.specs.declared.expression.Expr.TheOpen.{Literal as open_literal, Read as open_read, Binary as open_binary}
 use Rattle.kernel_ast.specs.declared.expression.Expr.TheVariants as expr
 use Rattle.kernel_ast.specs.declared.expression.Expr.TheViews.{out-Expr, out-roll-Expr}
-use Rattle.problem_types.specs.Thin.{IsThin, IsThinTerm, IsThinProblem, thin_level, thin_start, thin_shift, thin_problem, term_expression, plus_terms, sum_expression}
+use Rattle.problem_types.specs.Thin.{Thin, Term, Literal, Old, IsThin, IsThinTerm, IsThinProblem, thin_level, thin_start, thin_shift, thin_problem, term_expression, plus_terms, sum_expression}
 use Rattle.problem_types.specs.ThinParts.{IsOne, HasThinSize, IsThinGrid, IsThinLevel, IsThinVar, IsThinKeep, IsTermOfSum, IsThinSum, IsThinWrite, IsStartWrite, IsShiftWrite, IsThinRequire, IsTaskNamed, IsThinStart, IsThinShift, HasThinParts}
 use Rattle.problem_types.specs.declared.problem.Num.{Num}
 use Rattle.problem_types.specs.declared.problem.BoxLine.{BoxLine}
 use Rattle.problem_types.specs.declared.problem.Level.{Level}
-use Rattle.problem_types.specs.declared.problem.Centring.TheVariants.{Cell}
+use Rattle.uts_geom.specs.declared.centring.Centring.TheVariants.{Cell}
 use Rattle.problem_types.specs.declared.problem.Var.{Var}
 use Rattle.problem_types.specs.declared.problem.Keep.{Keep}
 use Rattle.problem_types.specs.declared.problem.Reduction.{Reduction}
@@ -27,9 +27,6 @@ use Rattle.problem_types.specs.declared.problem.WriteKind.TheVariants.{Computes}
 use Rattle.problem_types.specs.declared.problem.Write.{Write}
 use Rattle.problem_types.specs.declared.problem.Task.{Task}
 use Rattle.problem_types.specs.declared.problem.Problem.{Problem}
-use Rattle.problem_types.specs.declared.thin.Term.{Term}
-use Rattle.problem_types.specs.declared.thin.Term.TheVariants.{Literal, Old}
-use Rattle.problem_types.specs.declared.thin.Thin.{Thin}
 
 -- the item of a list that has one
 pub item_of : {A : Type 0} (P : A → Type 0) (xs : List A) → IsOne xs P → (x : A) × (xs ≡ x ∷ []) × P x
@@ -38,13 +35,13 @@ item_of P (x ∷ []) one = (x, refl, one)
 item_of P (x ∷ y ∷ xs) one = absurd one
 
 -- the forms of expression at the top
-open_Literal : (n : ℤ) → out-Expr (expr.Literal n) ≡ open_literal n
+pub open_Literal : (n : ℤ) → out-Expr (expr.Literal n) ≡ open_literal n
 open_Literal n = ap out-Expr (sym (expr.rolls-Literal n)) ∙ out-roll-Expr (open_literal n)
 
-open_Read : (r : Read) → out-Expr (expr.Read r) ≡ open_read r
+pub open_Read : (r : Read) → out-Expr (expr.Read r) ≡ open_read r
 open_Read r = ap out-Expr (sym (expr.rolls-Read r)) ∙ out-roll-Expr (open_read r)
 
-open_Binary : (o : Op) (a b : Expr) → out-Expr (expr.Binary o a b) ≡ open_binary o a b
+pub open_Binary : (o : Op) (a b : Expr) → out-Expr (expr.Binary o a b) ≡ open_binary o a b
 open_Binary o a b = ap out-Expr (sym (expr.rolls-Binary o a b)) ∙ out-roll-Expr (open_binary o a b)
 
 term_no_binary : (t : Term) (o : Op) (a b : Expr) → term_expression t ≡ expr.Binary o a b → ⊥

@@ -1,14 +1,15 @@
 -- The dump of a problem: the bytes that show the kept variables and reductions at the dumped steps.
-use Rattle.std.specs.Prelude.{◌≡◌, ℕ, ℤ, ◌+◌, List, [], ◌∷◌, ◌++◌, length, codes, decimal, if◌then◌else◌, slice_get}
+use Rattle.std.specs.Prelude.{◌≡◌, ℕ, ℤ, pos, ◌+◌, List, [], ◌∷◌, ◌++◌, map, length, codes, decimal, if◌then◌else◌, slice_get}
 use Rattle.std.proofs.Common.{refl, sym, ap, ◌∙◌, append_assoc, append-nil}
 use Rattle.std.proofs.lemmas.Grind.{flat_map-append}
 use Rattle.std.specs.Fmt.{signed_decimal}
 use Rattle.std.specs.List.{flat_map, join_by}
 use Rattle.std.specs.Option.{option_map_or, is_some}
-use Rattle.kernel_ast.specs.Index.{Index}
-use Rattle.problem_types.specs.Index.{Span, counted, row_of, by_rows}
+use Rattle.uts_geom.specs.Spans.{counted, row_indexes, rows_of}
+use Rattle.uts_geom.specs.declared.index.Index.{Index}
+use Rattle.uts_geom.specs.declared.span.Span.{Span}
 use Rattle.problem_types.specs.Lists.{task_list, is_dumped, computes, centring_of, variable_named}
-use Rattle.problem_types.specs.Regions.{index_space}
+use Rattle.problem_types.specs.Regions.{spaces_of}
 use Rattle.problem_types.specs.WholeField.{end_of_step}
 use Rattle.problem_types.specs.declared.problem.Problem.{Problem}
 
@@ -24,14 +25,17 @@ abbrev pub name_text : Problem → ℕ → List ℕ
 name_text p name = option_map_or (λ n. n) (slice_get p.names name) []
 
 -- numbers, each after a space
-abbrev pub spaced_numbers : List ℕ → List ℕ
-spaced_numbers numbers = flat_map (λ n. codes " " ++ decimal n) numbers
+abbrev pub spaced_numbers : List ℤ → List ℕ
+spaced_numbers numbers = flat_map (λ n. codes " " ++ signed_decimal n) numbers
 
--- the header of a field: its name, material and level, and the bounds of its span, low x, y, z, then high x, y, z
+abbrev pub corner_numbers : Index → List ℤ
+corner_numbers i = i.x ∷ i.y ∷ i.z ∷ []
+
+-- the header of a field: its name, material and level, and the bounds of its span, the low x, y, z, then the high ones
 unfoldable pub field_line : List ℕ → ℕ → ℕ → Span → List ℕ
 field_line name material level s =
     line (codes "field " ++ name ++ spaced_numbers
-    (material ∷ level ∷ s.low_x ∷ s.low_y ∷ s.low_z ∷ s.high_x ∷ s.high_y ∷ s.high_z ∷ []))
+    (pos material ∷ pos level ∷ (corner_numbers s.lo ++ corner_numbers s.hi)))
 
 -- the numbers of a row, with one space between
 unfoldable pub row_text : List ℤ → List ℕ
@@ -59,17 +63,22 @@ row_text-more m row n =
     ∙ ap (λ t. signed_decimal m ++ (flat_map after row ++ t)) (append-nil (after n))
     ∙ sym (append_assoc (signed_decimal m) (flat_map after row) (after n))
 
--- a field: its header, and a line for each row, z outermost, then y
-abbrev pub field_text : List ℕ → ℕ → ℕ → Span → (Index → ℤ) → List ℕ
-field_text name material level s field = field_line name material level s ++ by_rows s (λ y z. row_line (row_of field s y z))
+-- the lines of the rows of a span, z outermost, then y
+unfoldable pub rows_text : Span → (Index → ℤ) → List ℕ
+rows_text s field = flat_map (λ row. row_line (map field (row_indexes s row.0 row.1))) (rows_of s)
 
--- the fields of a kept variable: materials ascending, and for each the levels on which the step's list computes it
+-- a field on a span: its header, and a line for each row
+abbrev pub field_text : List ℕ → ℕ → ℕ → Span → (Index → ℤ) → List ℕ
+field_text name material level s field = field_line name material level s ++ rows_text s field
+
+-- the fields of a kept variable: materials ascending, for each the levels on which the step's list computes it, and
+-- for each of these the index space of each box
 abbrev pub variable_text : Problem → ℕ → ℕ → List ℕ
 variable_text p step name =
     flat_map (λ material. flat_map (λ level.
     if computes (task_list p step) name material level
-    then field_text (name_text p name) material level (index_space p level (centring_of p name))
-    ((end_of_step p step).field name material level)
+    then flat_map (λ s. field_text (name_text p name) material level s ((end_of_step p step).field name material level))
+    (spaces_of p level (centring_of p name))
     else []) (counted 0 (length p.levels))) (counted 0 p.materials.value)
 
 abbrev pub number_line : Problem → ℕ → ℕ → List ℕ

@@ -1,5 +1,4 @@
 pub mod Form
-pub mod Index
 pub mod Lists
 pub mod Regions
 pub mod WholeField
@@ -7,3 +6,4 @@ pub mod Ascent
 pub mod Dump
 pub mod Thin
 pub mod ThinParts
+pub mod Laws

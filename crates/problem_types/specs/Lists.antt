@@ -11,8 +11,8 @@ use Rattle.problem_types.specs.declared.problem.Var.{Var}
 use Rattle.problem_types.specs.declared.problem.Fold.{Fold}
 use Rattle.problem_types.specs.declared.problem.Fold.TheVariants.{Sum}
 use Rattle.problem_types.specs.declared.problem.Reduction.{Reduction}
-use Rattle.problem_types.specs.declared.problem.Centring.{Centring}
-use Rattle.problem_types.specs.declared.problem.Centring.TheVariants.{Cell}
+use Rattle.uts_geom.specs.declared.centring.Centring.{Centring}
+use Rattle.uts_geom.specs.declared.centring.Centring.TheVariants.{Cell}
 
 -- the tasks of a step: those of the init list at step 0, else those of the timestep list
 abbrev pub task_list : Problem → ℕ → List Task

@@ -7,16 +7,29 @@ use Rattle.kernel_ast.specs.declared.expression.How.TheVariants.{Same}
 use Rattle.kernel_ast.specs.declared.expression.Op.TheVariants.{Add}
 use Rattle.kernel_ast.specs.declared.expression.Expr.{Expr}
 use Rattle.kernel_ast.specs.declared.expression.Expr.TheVariants.{Literal as Constant, Read as Reading, Binary}
-use Rattle.problem_types.specs.declared.problem.Centring.TheVariants.{Cell}
+use Rattle.uts_geom.specs.declared.centring.Centring.TheVariants.{Cell}
 use Rattle.problem_types.specs.declared.problem.GhostKind.TheVariants.{Cells}
 use Rattle.problem_types.specs.declared.problem.What.TheVariants.{Same as OnLevel}
 use Rattle.problem_types.specs.declared.problem.WriteKind.TheVariants.{Computes}
 use Rattle.problem_types.specs.declared.problem.Problem.{Problem}
 use Rattle.problem_types.specs.declared.problem.Level.{Level}
 use Rattle.problem_types.specs.declared.problem.Task.{Task}
-use Rattle.problem_types.specs.declared.thin.Term.{Term}
-use Rattle.problem_types.specs.declared.thin.Term.TheVariants.{Literal, Old}
-use Rattle.problem_types.specs.declared.thin.Thin.{Thin}
+
+-- A term of a thin problem's kernel: a literal, or the variable at the end of the step before, at this offset in cells
+-- by axis, x, y, z.
+pub data Term : Type 0 where
+  Literal : ℤ → Term
+  Old : List ℤ → Term
+
+-- What a thin problem may choose: its steps, its layers of ghost cells, the cells along x, y and z, what a read outside
+-- the box gives, the number of each cell at step 0, and the terms that the kernel adds in each step.
+pub record Thin : Type 0 where
+  pub steps : ℕ
+  pub ghost_cells : ℕ
+  pub size : List ℕ
+  pub outside : ℤ
+  pub start : ℤ
+  pub terms : List Term
 
 abbrev pub term_expression : Term → Expr
 term_expression (Literal n) = Constant n

@@ -6,7 +6,7 @@ use Rattle.kernel_ast.specs.declared.expression.How.TheVariants.{Same}
 use Rattle.kernel_ast.specs.declared.expression.Read.{Read}
 use Rattle.kernel_ast.specs.declared.expression.Expr.{Expr}
 use Rattle.kernel_ast.specs.declared.expression.Expr.TheVariants.{Literal as Constant, Read as Reading}
-use Rattle.problem_types.specs.declared.problem.Centring.TheVariants.{Cell}
+use Rattle.uts_geom.specs.declared.centring.Centring.TheVariants.{Cell}
 use Rattle.problem_types.specs.declared.problem.GhostKind.TheVariants.{Cells}
 use Rattle.problem_types.specs.declared.problem.What.TheVariants.{Same as OnLevel}
 use Rattle.problem_types.specs.declared.problem.WriteKind.TheVariants.{Computes}
@@ -18,8 +18,7 @@ use Rattle.problem_types.specs.declared.problem.Keep.{Keep}
 use Rattle.problem_types.specs.declared.problem.Require.{Require}
 use Rattle.problem_types.specs.declared.problem.Write.{Write}
 use Rattle.problem_types.specs.declared.problem.Task.{Task}
-use Rattle.problem_types.specs.declared.thin.Term.{Term}
-use Rattle.problem_types.specs.Thin.{Reaches, IsThinSize, IsThinTerm, sum_expression, thin_names}
+use Rattle.problem_types.specs.Thin.{Term, Reaches, IsThinSize, IsThinTerm, sum_expression, thin_names}
 
 -- the list has one item, and this holds of it
 abbrev pub IsOne : {A : Type 0} → List A → (A → Type 0) → Type 0

@@ -3,12 +3,11 @@ use Rattle.std.specs.Prelude.{ℕ, zero, suc, ℤ, pos, negsuc, ◌+◌, ◌-◌
 use Rattle.std.specs.Int.{int_min, int_max}
 use Rattle.std.specs.List.{flat_map}
 use Rattle.std.specs.Option.{option_map_or}
-use Rattle.uts_num.specs.Arithmetic.{sum_of}
-use Rattle.kernel_ast.specs.Index.{Index}
-use Rattle.problem_types.specs.Index.{moved, offset_of, is_inside, numbers_over}
+use Rattle.uts_geom.specs.declared.index.Index.{Index}
+use Rattle.kernel_ast.specs.Arithmetic.{sum_of}
 use Rattle.kernel_ast.specs.Value.{Environment, value_of}
 use Rattle.problem_types.specs.Lists.{task_list, runs_on, field_write, reduction_write, outside_of, centring_of, fold_of}
-use Rattle.problem_types.specs.Regions.{index_space, ratio_of, coarse_index, children_of}
+use Rattle.problem_types.specs.Regions.{is_in_space, indexes_of, moved, offset_of, ratio_of, coarse_index, children_of}
 use Rattle.kernel_ast.specs.declared.expression.Store.{Store}
 use Rattle.kernel_ast.specs.declared.expression.Store.TheVariants.{Old, New}
 use Rattle.kernel_ast.specs.declared.expression.How.{How}
@@ -19,8 +18,8 @@ use Rattle.problem_types.specs.declared.problem.Task.{Task}
 use Rattle.problem_types.specs.declared.problem.Write.{Write}
 use Rattle.problem_types.specs.declared.problem.WriteKind.{WriteKind}
 use Rattle.problem_types.specs.declared.problem.WriteKind.TheVariants.{Computes, Modifies, Reduces}
-use Rattle.problem_types.specs.declared.problem.Centring.{Centring}
-use Rattle.problem_types.specs.declared.problem.Centring.TheVariants.{Cell}
+use Rattle.uts_geom.specs.declared.centring.Centring.{Centring}
+use Rattle.uts_geom.specs.declared.centring.Centring.TheVariants.{Cell}
 use Rattle.problem_types.specs.declared.problem.Fold.{Fold}
 use Rattle.problem_types.specs.declared.problem.Fold.TheVariants.{Sum, Min, Max}
 
@@ -67,7 +66,9 @@ number_read p field r level i FineCount = pos (length (children_of p level (cent
 -- where a kernel of a task runs: old is what the step before left, and new what the tasks before left
 abbrev pub environment : Problem → ℕ → State → State → ℕ → ℕ → Index → Environment
 environment p step old new material level i = record {
-  at = i;
+  x = i.x;
+  y = i.y;
+  z = i.z;
   level = level;
   material = material;
   step = step;
@@ -84,15 +85,15 @@ reduced_centring (Reduces c) = c
 abbrev pub contributions : Problem → ℕ → State → State → Task → Write → List ℤ
 contributions p step old new task w =
     flat_map (λ level. flat_map (λ material.
-    numbers_over (λ i. value_of w.expr (environment p step old new material level i))
-    (index_space p level (reduced_centring w.kind))) task.materials) task.levels
+    map (λ i. value_of w.expr (environment p step old new material level i))
+    (indexes_of p level (reduced_centring w.kind))) task.materials) task.levels
 
 -- What a task leaves: outside its index space a variable has its outside number; inside, the number of the kernel
 -- of the task's line for it, where the task runs on the material and the level and has such a line; else what stood.
 unfoldable pub after_task : Problem → ℕ → State → State → Task → State
 after_task p step old new task = record {
   field = λ name material level i.
-      if is_inside (index_space p level (centring_of p name)) i
+      if is_in_space p level (centring_of p name) i
       then (if runs_on task material level
       then option_map_or (λ w. value_of w.expr (environment p step old new material level i))
       (field_write task name) (new.field name material level i)

@@ -1,7 +1,7 @@
 ghost use Rattle.std.specs.Prelude.{◌≡◌, ◌<◌, ◌≤◌, ◌^◌, ◌↔◌, IsTrue, All, length};
-ghost use Rattle.std.specs.List.Sorted.{IsStrictlyIncreasing};
 ghost use Rattle.problem_types.specs.Form.{IsShort, IsNumberList, IsLevelInForm, AreLayersInForm, IsWhatInForm, IsWriteInForm, IsTaskInForm, AreTasksInForm, IsProblemInForm};
 
+use crate::ascending::is_ascending;
 use crate::lines::are_lines_in_order;
 use crate::{Ghost, GhostKind, Keep, Level, Problem, Reduction, Require, Task, Var, What, Write};
 
@@ -9,17 +9,6 @@ fn is_short<T>(entries: &[T]) -> bool
     ensures { IsTrue result ↔ IsShort entries.now }
 {
     entries.len() < 1 << 31
-}
-
-fn is_ascending(numbers: &[u64]) -> bool
-    ensures { IsTrue result ↔ IsStrictlyIncreasing numbers.now }
-{
-    for i in 1..numbers.len() {
-        if numbers[i - 1] >= numbers[i] {
-            return false;
-        }
-    }
-    true
 }
 
 fn is_number_list(numbers: &[u64]) -> bool
@@ -47,25 +36,25 @@ fn are_layers_in_form(layers: Ghost) -> bool
     }
 }
 
-fn is_what_in_form(what: What, names: u32) -> bool
+fn is_what_in_form(what: What, names: usize) -> bool
     ensures { IsTrue result ↔ IsWhatInForm names what }
 {
     match what {
         What::Same { var, layers } | What::Coarse { var, layers } => {
-            var < names && are_layers_in_form(layers)
+            (var as usize) < names && are_layers_in_form(layers)
         }
-        What::Fine { var } => var < names,
-        What::Number { name } => name < names,
+        What::Fine { var } => (var as usize) < names,
+        What::Number { name } => (name as usize) < names,
     }
 }
 
-fn is_write_in_form(write: &Write, names: u32) -> bool
+fn is_write_in_form(write: &Write, names: usize) -> bool
     ensures { IsTrue result ↔ IsWriteInForm names write.now }
 {
-    write.name < names && kernel_ast::in_form(&write.expr, names)
+    (write.name as usize) < names && kernel_ast::in_form(&write.expr, names)
 }
 
-fn are_requirements_in_form(requirements: &[Require], names: u32) -> bool
+fn are_requirements_in_form(requirements: &[Require], names: usize) -> bool
     ensures { IsTrue result ↔ All (λ r. IsWhatInForm names r.what) requirements.now }
 {
     requirements
@@ -73,16 +62,16 @@ fn are_requirements_in_form(requirements: &[Require], names: u32) -> bool
         .all(|require| is_what_in_form(require.what, names))
 }
 
-fn are_writes_in_form(writes: &[Write], names: u32) -> bool
+fn are_writes_in_form(writes: &[Write], names: usize) -> bool
     ensures { IsTrue result ↔ All (IsWriteInForm names) writes.now }
 {
     writes.iter().all(|write| is_write_in_form(write, names))
 }
 
-fn is_task_in_form(task: &Task, names: u32) -> bool
+fn is_task_in_form(task: &Task, names: usize) -> bool
     ensures { IsTrue result ↔ IsTaskInForm names task.now }
 {
-    task.name < names
+    (task.name as usize) < names
         && is_number_list(task.levels.as_slice())
         && is_number_list(task.materials.as_slice())
         && is_short(task.requirements.as_slice())
@@ -92,7 +81,7 @@ fn is_task_in_form(task: &Task, names: u32) -> bool
         && are_writes_in_form(task.writes.as_slice(), names)
 }
 
-fn are_tasks_in_form(tasks: &[Task], names: u32) -> bool
+fn are_tasks_in_form(tasks: &[Task], names: usize) -> bool
     ensures { IsTrue result ↔ AreTasksInForm names tasks.now }
 {
     is_short(tasks) && tasks.iter().all(|task| is_task_in_form(task, names))
@@ -104,25 +93,25 @@ fn are_levels_in_form(levels: &[Level]) -> bool
     levels.len() >= 1 && is_short(levels) && levels.iter().all(is_level_in_form)
 }
 
-fn are_vars_in_form(vars: &[Var], names: u32) -> bool
+fn are_vars_in_form(vars: &[Var], names: usize) -> bool
     ensures { IsTrue result ↔ (IsShort vars.now × All (λ v. v.name < names) vars.now) }
 {
-    is_short(vars) && vars.iter().all(|v| v.name < names)
+    is_short(vars) && vars.iter().all(|v| (v.name as usize) < names)
 }
 
-fn are_reductions_in_form(reductions: &[Reduction], names: u32) -> bool
+fn are_reductions_in_form(reductions: &[Reduction], names: usize) -> bool
     ensures { IsTrue result ↔ (IsShort reductions.now × All (λ q. q.name < names) reductions.now) }
 {
-    is_short(reductions) && reductions.iter().all(|q| q.name < names)
+    is_short(reductions) && reductions.iter().all(|q| (q.name as usize) < names)
 }
 
-fn are_keeps_in_form(keeps: &[Keep], names: u32) -> bool
+fn are_keeps_in_form(keeps: &[Keep], names: usize) -> bool
     ensures { IsTrue result ↔ (IsShort keeps.now × All (λ k. k.name < names) keeps.now) }
 {
-    is_short(keeps) && keeps.iter().all(|k| k.name < names)
+    is_short(keeps) && keeps.iter().all(|k| (k.name as usize) < names)
 }
 
-fn are_lists_in_form(p: &Problem, names: u32) -> bool
+fn are_lists_in_form(p: &Problem, names: usize) -> bool
     ensures { IsTrue result ↔ (IsShort p.now.vars × All (λ v. v.name < names) p.now.vars
         × IsShort p.now.reductions × All (λ q. q.name < names) p.now.reductions
         × AreTasksInForm names p.now.init × AreTasksInForm names p.now.timestep
@@ -145,6 +134,6 @@ pub fn in_form(p: &Problem) -> bool
         && p.materials.value >= 1
         && are_levels_in_form(p.levels.as_slice())
         && is_short(p.names.as_slice())
-        && are_lists_in_form(p, p.names.len() as u32)
+        && are_lists_in_form(p, p.names.len())
         && are_lines_in_order(p)
 }

@@ -1,4 +1,4 @@
-use crate::{Expr, Name, Store};
+use crate::{Centring, Expr, Name, Store};
 use sqlite_items::Items;
 
 /// A number and the line that gives it.
@@ -23,16 +23,6 @@ pub struct Level {
     pub ratio: u64,
     pub boxes: Items<BoxLine>,
     pub patches: Items<BoxLine>,
-}
-
-/// Where the numbers of a variable stand: at cells, at nodes, or at the faces across an axis.
-#[derive(Clone, Copy, Debug, PartialEq, Eq)]
-pub enum Centring {
-    Cell,
-    Node,
-    FaceX,
-    FaceY,
-    FaceZ,
 }
 
 /// A variable, and the number that a read outside its index space gives.

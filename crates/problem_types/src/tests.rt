@@ -1,52 +1,122 @@
 use crate::{
-    Centring, Expr, Fold, Keep, Name, NoMemory, Op, Problem, Reduction, Term, Thin, Var, copy,
-    in_form, is_thin, reduction_of, var_of,
+    BoxLine, Centring, Expr, Fold, Ghost, GhostKind, How, Keep, Level, Name, NoMemory, Num, Op,
+    Problem, Read, Reduction, Require, Store, Task, Var, What, Write, WriteKind, copy, in_form,
+    is_ascending, is_thin, reduction_of, var_of,
 };
-use sqlite_items::Items;
+use sqlite_items::{Boxed, Items};
 use std::alloc::Global;
 use std::test::Fail;
 
-fn two_terms(alloc: Global) -> Result<Problem, NoMemory> {
-    let mut terms = Items::new(alloc);
-    terms.push(Term::Old([-1, 0, 2]))?;
-    terms.push(Term::Literal(5))?;
-    let thin = Thin {
-        steps: 3,
-        ghost_cells: 2,
-        size: [4, 2, 1],
-        outside: -7,
-        start: 9,
-        terms,
-    };
-    thin.problem(alloc)
+fn one<T: Drop>(alloc: Global, item: T) -> Result<Items<T>, NoMemory> {
+    let mut items = Items::new(alloc);
+    items.push(item)?;
+    Ok(items)
 }
 
-#[test]
-fn a_thin_problem_has_its_choices(rt: HostRuntime) -> Result<(), Fail> {
-    let problem = two_terms(rt.alloc())?;
-    assert_eq!(rt; problem.steps.value, 3);
-    let name = problem.names.get(2).expect(&rt, "three names");
-    assert_eq!(rt; name.bytes(), b"shift".as_slice());
-    let level = problem.levels.get(0).expect(&rt, "a level");
-    let patch = level.patches.get(0).expect(&rt, "a patch");
-    assert_eq!(rt; patch.hi, [4, 2, 1]);
-    let variable = problem.vars.get(0).expect(&rt, "a variable");
-    assert_eq!(rt; variable.outside, -7);
-    Ok(())
+fn read(offset: i64) -> Expr {
+    Expr::Read(Read {
+        store: Store::Old,
+        how: How::Same,
+        name: 0,
+        offset: [offset, 0, 0],
+    })
 }
 
-#[test]
-fn a_kernel_adds_its_terms_from_the_left(rt: HostRuntime) -> Result<(), Fail> {
-    let problem = two_terms(rt.alloc())?;
-    let task = problem.timestep.get(0).expect(&rt, "a task");
-    let write = task.writes.get(0).expect(&rt, "a line");
-    let Expr::Binary(op, left, right) = &write.expr else {
-        return Err(Fail::from("a sum"));
+// So many reads at an offset along x, added up from the left.
+fn sum(alloc: Global, reads: u32, offset: i64) -> Result<Expr, NoMemory> {
+    let mut sum = read(offset);
+    for _ in 1..reads {
+        let right = Boxed::new(alloc, read(offset))?;
+        sum = Expr::Binary(Op::Add, Boxed::new(alloc, sum)?, right);
+    }
+    Ok(sum)
+}
+
+fn names(alloc: Global) -> Result<Items<Name>, NoMemory> {
+    let mut names = one(alloc, Name::new(alloc, b"u")?)?;
+    names.push(Name::new(alloc, b"start")?)?;
+    names.push(Name::new(alloc, b"shift")?)?;
+    Ok(names)
+}
+
+fn level(alloc: Global) -> Result<Level, NoMemory> {
+    let cells = |line: u32| BoxLine {
+        line,
+        lo: [0, 0, 0],
+        hi: [4096, 8, 8],
     };
-    assert_eq!(rt; *op, Op::Add);
-    assert!(rt; matches!(left.get(), Expr::Read(read) if read.offset == [-1, 0, 2]));
-    assert!(rt; matches!(right.get(), Expr::Literal(5)));
-    Ok(())
+    Ok(Level {
+        line: 6,
+        ratio: 1,
+        boxes: one(alloc, cells(7))?,
+        patches: one(alloc, cells(8))?,
+    })
+}
+
+// A task that computes the variable, on the line `write`.
+fn task(alloc: Global, line: u32, name: u32, write: u32, expr: Expr) -> Result<Task, NoMemory> {
+    let write = Write {
+        line: write,
+        kind: WriteKind::Computes,
+        name: 0,
+        expr,
+    };
+    Ok(Task {
+        line,
+        name,
+        levels: one(alloc, 0)?,
+        materials: one(alloc, 0)?,
+        requirements: Items::new(alloc),
+        writes: one(alloc, write)?,
+    })
+}
+
+fn shift(alloc: Global, kernel: Expr) -> Result<Task, NoMemory> {
+    let layers = Ghost {
+        kind: GhostKind::Cells,
+        n: 8,
+    };
+    let mut shift = task(alloc, 14, 2, 16, kernel)?;
+    shift.requirements.push(Require {
+        line: 15,
+        store: Store::Old,
+        what: What::Same { var: 0, layers },
+    })?;
+    Ok(shift)
+}
+
+// A thin problem of the greatest size, with 8 ghost cells, but for its kernel.
+fn with_kernel(alloc: Global, kernel: Expr) -> Result<Problem, NoMemory> {
+    let num = |line: u32, value: u64| Num { line, value };
+    Ok(Problem {
+        names: names(alloc)?,
+        version: num(1, 1),
+        steps: num(2, 65_535),
+        dump: num(3, 1),
+        ghost_limit: num(4, 8),
+        materials: num(5, 1),
+        levels: one(alloc, level(alloc)?)?,
+        vars: one(
+            alloc,
+            Var {
+                line: 9,
+                name: 0,
+                centring: Centring::Cell,
+                outside: -7,
+            },
+        )?,
+        reductions: Items::new(alloc),
+        init_line: 10,
+        init: one(alloc, task(alloc, 11, 1, 12, Expr::Literal(9))?)?,
+        timestep_line: 13,
+        timestep: one(alloc, shift(alloc, kernel)?)?,
+        keeps: one(alloc, Keep { line: 17, name: 0 })?,
+        end_line: 18,
+    })
+}
+
+fn problem(alloc: Global) -> Result<Problem, NoMemory> {
+    with_kernel(alloc, sum(alloc, 2, -1)?)
 }
 
 #[test]
@@ -57,7 +127,7 @@ fn a_name_is_its_bytes(rt: HostRuntime) -> Result<(), Fail> {
 
 #[test]
 fn lines_are_no_part_of_what_is_thin(rt: HostRuntime) -> Result<(), Fail> {
-    let mut problem = two_terms(rt.alloc())?;
+    let mut problem = problem(rt.alloc())?;
     assert!(rt; is_thin(&problem));
     problem.version.line = 3;
     problem.end_line = 40;
@@ -69,7 +139,7 @@ fn lines_are_no_part_of_what_is_thin(rt: HostRuntime) -> Result<(), Fail> {
 
 #[test]
 fn a_second_keep_is_not_thin(rt: HostRuntime) -> Result<(), Fail> {
-    let mut problem = two_terms(rt.alloc())?;
+    let mut problem = problem(rt.alloc())?;
     problem.keeps.push(Keep { line: 18, name: 0 })?;
     assert!(rt; !is_thin(&problem));
     Ok(())
@@ -77,19 +147,7 @@ fn a_second_keep_is_not_thin(rt: HostRuntime) -> Result<(), Fail> {
 
 // Whether a problem of so many terms is thin, each of which reads at this offset along x.
 fn is_thin_with(alloc: Global, terms: u32, offset: i64) -> Result<bool, NoMemory> {
-    let mut list = Items::new(alloc);
-    for _ in 0..terms {
-        list.push(Term::Old([offset, 0, 0]))?;
-    }
-    let thin = Thin {
-        steps: 65_535,
-        ghost_cells: 8,
-        size: [4096, 8, 8],
-        outside: 0,
-        start: 0,
-        terms: list,
-    };
-    Ok(is_thin(&thin.problem(alloc)?))
+    Ok(is_thin(&with_kernel(alloc, sum(alloc, terms, offset)?)?))
 }
 
 #[test]
@@ -114,7 +172,7 @@ fn variable(line: u32, name: u32) -> Var {
 
 #[test]
 fn a_declaration_is_found_by_its_name(rt: HostRuntime) -> Result<(), Fail> {
-    let mut problem = two_terms(rt.alloc())?;
+    let mut problem = problem(rt.alloc())?;
     problem.vars.push(variable(10, 2))?;
     problem.vars.push(variable(10, 2))?;
     assert_eq!(rt; var_of(&problem, 0), Some(0));
@@ -136,7 +194,7 @@ fn a_declaration_is_found_by_its_name(rt: HostRuntime) -> Result<(), Fail> {
 #[test]
 fn a_copy_is_the_same_problem(rt: HostRuntime) -> Result<(), Fail> {
     let alloc = rt.alloc();
-    let mut problem = two_terms(alloc)?;
+    let mut problem = problem(alloc)?;
     problem.reductions.push(Reduction {
         line: 10,
         name: 1,
@@ -150,7 +208,7 @@ fn a_copy_is_the_same_problem(rt: HostRuntime) -> Result<(), Fail> {
 }
 
 fn with_levels(alloc: Global, levels: &[u64]) -> Result<Problem, NoMemory> {
-    let mut problem = two_terms(alloc)?;
+    let mut problem = problem(alloc)?;
     if let Some(mut task) = problem.init.pop() {
         task.levels = Items::from_slice(alloc, levels)?;
         problem.init.push(task)?;
@@ -160,7 +218,7 @@ fn with_levels(alloc: Global, levels: &[u64]) -> Result<Problem, NoMemory> {
 
 // Variables on lines 9 and 10, a reduction, and no task before the steps.
 fn with_reduction(alloc: Global, line: u32, name: u32) -> Result<Problem, NoMemory> {
-    let mut problem = two_terms(alloc)?;
+    let mut problem = problem(alloc)?;
     problem.init = Items::new(alloc);
     problem.init_line = 12;
     problem.vars.push(variable(10, 2))?;
@@ -175,10 +233,12 @@ fn with_reduction(alloc: Global, line: u32, name: u32) -> Result<Problem, NoMemo
 #[test]
 fn number_lists_ascend_strictly(rt: HostRuntime) -> Result<(), Fail> {
     let alloc = rt.alloc();
+    assert!(rt; is_ascending(&[]));
+    assert!(rt; is_ascending(&[0, 2, 7]));
+    assert!(rt; !is_ascending(&[0, 2, 2]));
     assert!(rt; in_form(&with_levels(alloc, &[0])?));
     assert!(rt; in_form(&with_levels(alloc, &[0, 2, 7])?));
     assert!(rt; !in_form(&with_levels(alloc, &[])?));
-    assert!(rt; !in_form(&with_levels(alloc, &[0, 2, 2])?));
     assert!(rt; !in_form(&with_levels(alloc, &[2, 0])?));
     Ok(())
 }
@@ -196,7 +256,7 @@ fn variables_stand_before_reductions(rt: HostRuntime) -> Result<(), Fail> {
 
 #[test]
 fn lines_are_below_2_to_the_31(rt: HostRuntime) -> Result<(), Fail> {
-    let mut problem = two_terms(rt.alloc())?;
+    let mut problem = problem(rt.alloc())?;
     problem.end_line = 2_147_483_647;
     assert!(rt; in_form(&problem));
     problem.end_line = 2_147_483_648;

@@ -11,7 +11,7 @@ use Rattle.kernel_parse.specs.Grammar.{Words}
 use Rattle.kernel_parse.specs.Reading.{◌>>=◌, behind, behind_sign, number_of_token, name_of_token, first_as, signed_at, if_empty}
 use Rattle.kernel_parse.specs.Signed.{signed_some}
 use Rattle.kernel_parse.specs.Firsts.{bind_some, branch_some, test_some, map_some, behind_sign_some, behind_word_some, first_as_some, number_some, name_some}
-use Rattle.problem_types.specs.declared.problem.Centring.{Centring}
+use Rattle.uts_geom.specs.declared.centring.Centring.{Centring}
 use Rattle.problem_types.specs.declared.problem.Fold.{Fold}
 use Rattle.problem_types.specs.declared.problem.Ghost.{Ghost}
 use Rattle.problem_types.specs.declared.problem.GhostKind.TheVariants as ghosts

@@ -7,7 +7,7 @@ use Rattle.kernel_ast.specs.declared.expression.Store.{Store}
 use Rattle.kernel_ast.specs.declared.expression.Expr.{Expr}
 use Rattle.kernel_parse.specs.Signs.{word, number, sign, store_of, is_reserved}
 use Rattle.kernel_parse.specs.Grammar.{Words, SpellsSigned, SpellsExpression}
-use Rattle.problem_types.specs.declared.problem.Centring.{Centring}
+use Rattle.uts_geom.specs.declared.centring.Centring.{Centring}
 use Rattle.problem_types.specs.declared.problem.Fold.{Fold}
 use Rattle.problem_types.specs.declared.problem.Ghost.{Ghost}
 use Rattle.problem_types.specs.declared.problem.GhostKind.{GhostKind}

@@ -7,7 +7,7 @@ use Rattle.kernel_ast.specs.declared.expression.Expr.{Expr}
 use Rattle.kernel_parse.specs.Signs.{is_word, store_of}
 use Rattle.kernel_parse.specs.Grammar.{Words, SpellsExpression}
 use Rattle.kernel_parse.specs.Reading.{◌>>=◌, behind, behind_sign, number_of_token, name_of_token, first_as, signed_at, if_empty}
-use Rattle.problem_types.specs.declared.problem.Centring.{Centring}
+use Rattle.uts_geom.specs.declared.centring.Centring.{Centring}
 use Rattle.problem_types.specs.declared.problem.Fold.{Fold}
 use Rattle.problem_types.specs.declared.problem.Ghost.{Ghost}
 use Rattle.problem_types.specs.declared.problem.GhostKind.{GhostKind}

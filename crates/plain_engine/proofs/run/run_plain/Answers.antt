@@ -2,9 +2,8 @@ use Rattle.std.proofs.Common.{arith, ◌≡◌, ◌∙◌, ◌+◌, ◌++◌, �
 use Rattle.std.proofs.lemmas.Result.{on_ok_weaker}
 use Rattle.uts_io.specs.Streams.{Rose-earlier}
 use Rattle.problem_types.specs.Dump.{dump_text, step_text, line}
-use Rattle.problem_types.specs.Thin.{thin_problem}
+use Rattle.problem_types.specs.Thin.{Thin, thin_problem}
 use Rattle.problem_types.specs.declared.problem.Problem.{Problem}
-use Rattle.problem_types.specs.declared.thin.Thin.{Thin}
 use Rattle.plain_engine.specs.Below.{joined}
 use Rattle.plain_engine.proofs.Writing.{stopped_in_first, stopped_between, stopped_in_last, wrote_last}
 use Rattle.plain_engine.proofs.Steps.{dump_text-thin}

@@ -1,4 +1,4 @@
-use Rattle.std.proofs.Common.{arith, ◌≡◌, ◌<◌, ◌+◌, ◌∙◌, Err, ap, refl, sym, length}
+use Rattle.std.proofs.Common.{slice_index, arith, ◌≡◌, ◌<◌, ◌+◌, ◌∙◌, Err, ap, refl, sym, length}
 use Rattle.std.proofs.lemmas.Result.{err_from_is_err_and}
 use Rattle.uts_io.specs.Streams.{grown}
 use Rattle.problem_types.specs.Dump.{step_text}
@@ -16,7 +16,8 @@ returns-in_err-numbers-2 g c = λ t line_of thin are.
     let loop = c.loop-step.invariant in
     let before : AreBefore line_of t c.args.parts.now c.loop-step.step c.deref.result.now =
     λ m at. c.deref.ensures.value ∙ loop.numbers t line_of thin are m at in
-    let written = rw (next_text-before line_of t c.args.parts.now are c.loop-step.step c.deref.result.now before) at c.in_err-numbers-2.ensures.written in
+    let some : 0 < slice_index t.size 0 = omega (arith, thin.along_x) in
+    let written = rw (next_text-before line_of t c.args.parts.now are c.loop-step.step c.deref.result.now some before) at c.in_err-numbers-2.ensures.written in
     let below : c.loop-step.step < t.steps + 1 = omega (arith, are.steps) in
     failed_in_turn g.O.Sink.after g.met.O.Sink.after_both _ _ _ _ _ _ (step_text (thin_problem t line_of)) c.loop-step.step (t.steps + 1)
     c.in_err-numbers-2.field-0.0 _ _ below (loop.written t line_of thin are) loop.never_falls refl (p.1 ∙ ap Err p.2) written
@@ -31,7 +32,8 @@ loop-step-preserved g c =
       full = sym (ap length made.numbers ∙ length-numbers_of_cells (next_number parts c.loop-step.step numbers) parts.x parts.y parts.z);
       never_falls = omega (arith, loop.never_falls, made.written.never_falls);
       written = λ t line_of thin are.
-          let text = next_text-before line_of t parts are c.loop-step.step numbers (λ m at. c.deref.ensures.value ∙ loop.numbers t line_of thin are m at) in
+          let some : 0 < slice_index t.size 0 = omega (arith, thin.along_x) in
+          let text = next_text-before line_of t parts are c.loop-step.step numbers some (λ m at. c.deref.ensures.value ∙ loop.numbers t line_of thin are m at) in
           more_written g.O.Sink.after g.met.O.Sink.after_both _ _ _ 0 0 0 (step_text (thin_problem t line_of)) c.loop-step.step (loop.written t line_of thin are)
           (rw text at made.written).all;
       numbers = λ t line_of thin are.

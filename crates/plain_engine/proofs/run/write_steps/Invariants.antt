@@ -1,8 +1,7 @@
 use Rattle.std.proofs.Common.{◌≡◌, ◌≤◌, ◌*◌, ℕ, length}
 use Rattle.uts_io.specs.Streams.{grown}
-use Rattle.problem_types.specs.Thin.{IsThin, thin_problem}
+use Rattle.problem_types.specs.Thin.{Thin, IsThin, thin_problem}
 use Rattle.problem_types.specs.Dump.{step_text}
-use Rattle.problem_types.specs.declared.thin.Thin.{Thin}
 use Rattle.plain_engine.specs.Below.{joined}
 use Rattle.plain_engine.specs.Parts.{ArePartsOf}
 use Rattle.plain_engine.proofs.Steps.{AreBefore}

@@ -1,6 +1,6 @@
 use Rattle.std.proofs.Common.{rules, ◌≡◌, ◌+◌, ◌*◌, ◌∙◌, ap, sym, w64, FitsSigned, slice_index_or, pos}
 use Rattle.std.proofs.lemmas.Int.{to_z-of_z}
-use Rattle.problem_types.specs.Index.{moved, offset_of}
+use Rattle.problem_types.specs.Regions.{moved, offset_of}
 use Rattle.plain_engine.proofs.Places.{stored_inside, stored_beside_x, stored_beside_y, stored_beside_z, of_none}
 use Rattle.plain_engine.proofs.field.Field.at.Goals as goal
 use Rattle.plain_engine.proofs.field.Field.at.Goals.{in_default-via-in-Some+in-Some+in_default, in_default-via-in-Some+in_default, in_default-via-in_default}

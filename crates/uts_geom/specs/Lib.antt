@@ -1,0 +1,3 @@
+pub mod Centrings
+pub mod Spans
+pub mod Rows
