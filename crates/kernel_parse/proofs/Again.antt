@@ -2,13 +2,15 @@
 use Rattle.std.proofs.Common.{◌≡◌, ℕ, Bool, true, false, List, [], ◌∷◌, ◌++◌, Some, None, refl, ap, ◌∙◌, append_assoc, codes, ℤ}
 use Rattle.std.specs.Prelude.{◌||◌}
 use Rattle.std.specs.Str.{bytes_eq}
+use Rattle.uts_lex.specs.declared.token.Kind.TheVariants.{Word}
 use Rattle.uts_lex.specs.Lexemes.{Lexeme}
+use Rattle.kernel_ast.specs.declared.expression.How.{How}
 use Rattle.kernel_ast.specs.declared.expression.Expr.{Expr}
-use Rattle.kernel_parse.specs.Signs.{sign, is_word, is_reserved}
+use Rattle.kernel_parse.specs.Signs.{sign, is_word, fine_words, is_reserved}
 use Rattle.kernel_parse.specs.Grammar.{Words, SpellsOffset, offset, SpellsRead, own, coarse, fine, reduction}
 use Rattle.kernel_parse.specs.Reading.{behind_sign, offset_at, parsed, dot_name_at, variable_at, read_at}
 use Rattle.kernel_parse.specs.Signed.{signed_again}
-use Rattle.kernel_parse.proofs.Tables.{fine_case}
+use Rattle.kernel_parse.specs.Tables.{meaning_case}
 
 offset_again : {ts : List Lexeme} {by : List ℤ} → SpellsOffset ts by → (rest : List Lexeme) → offset_at (ts ++ rest) ≡ Some (by, rest)
 unfolding offset_at
@@ -57,7 +59,7 @@ read_again (own names at store name ts by is_store free spelled) rest follows =
 read_again (coarse names at store name ts by is_store free spelled) rest follows =
     rw (is_store, free, offset_again spelled rest) refl
 read_again (fine names at kind store how name is_store is_fine free) rest follows =
-    let not_coarse : is_word (codes "coarse") kind ≡ false = fine_case kind how is_fine (λ t. is_word (codes "coarse") t ≡ false) refl refl refl refl in
+    let not_coarse : is_word (codes "coarse") kind ≡ false = meaning_case Word (λ (t : Lexeme) (h : How). is_word (codes "coarse") t ≡ false) fine_words kind how is_fine (refl, (refl, (refl, (refl, tt)))) in
     rw (is_store, not_coarse, is_fine, free) refl
 read_again (reduction names at store name is_store free) rest follows =
     let n = is_free name free in

@@ -3,19 +3,19 @@ use Rattle.std.proofs.Common.{◌≡◌, ℕ, zero, suc, ◌-◌, ◌<◌, ◌�
 use Rattle.std.specs.Prelude.{nat_lt}
 use Rattle.std.proofs.lemmas.List.{append-nil}
 use Rattle.std.proofs.lemmas.Bool.Decides.{nat_tests}
+use Rattle.uts_lex.specs.declared.token.Kind.TheVariants.{Word}
 use Rattle.uts_lex.specs.Lexemes.{Lexeme}
-use Rattle.kernel_ast.specs.Size.{depth_of, node_count, depth_of-Neg, depth_of-Binary, depth_of-Select, node_count-Neg, node_count-Binary, node_count-Select}
+use Rattle.kernel_ast.specs.Size.{depth_of, node_count, depth_of_positive, depth_of-Neg, depth_of-Binary, depth_of-Select, node_count-Neg, node_count-Binary, node_count-Select}
 use Rattle.kernel_ast.specs.declared.expression.Store.{Store}
 use Rattle.kernel_ast.specs.declared.expression.Op.{Op}
 use Rattle.kernel_ast.specs.declared.expression.Expr.{Expr}
 use Rattle.kernel_ast.specs.declared.expression.Expr.TheVariants as expr
 use Rattle.kernel_parse.specs.declared.lexeme.Operators.TheVariants.{Comparison, Term, Factor}
-use Rattle.kernel_parse.specs.Signs.{word, number, sign, is_sign, op_of, comparison_of, call_of, place_of, store_of}
+use Rattle.kernel_parse.specs.Signs.{word, number, sign, is_sign, op_of, comparison_of, call_words, call_of, place_words, place_of, store_words, store_of}
 use Rattle.kernel_parse.specs.Grammar.{Words, SpellsRead, own, coarse, fine, reduction, Form, whole, sum, product, unary, primary, Spells, one_sum, compared, one_product, added, one_unary, multiplied, one_primary, negated, literal, place, read, grouped, called, selected, SpellsExpression}
 use Rattle.kernel_parse.specs.Reading.{behind_sign, first_as, Parsed, parsed, read_at, limited, Reader, unary_at, call_at, select_at, leaf_at, primary_at, product_at, sum_at, whole_at, expression_at, all_of}
 use Rattle.kernel_parse.specs.Numbers.{is_number-decimal, digits_value-decimal}
-use Rattle.kernel_parse.proofs.Tables.{call_case, place_case, store_case}
-use Rattle.kernel_ast.proofs.Limits.{depth_of_positive}
+use Rattle.kernel_parse.specs.Tables.{meaning_case}
 use Rattle.kernel_parse.proofs.Again.{read_again}
 use Rattle.kernel_parse.proofs.Ends.{AfterUnary, AfterProduct, AfterSum, AfterWhole, ends_at_end, ends_at_shut, ends_at_comma, ends_at_comparison, ends_at_term, ends_at_factor, fits, Gets, GetsChain, chain_ends, chain_one, chain_more}
 
@@ -33,15 +33,15 @@ read_no_minus : {ts : List Lexeme} {names : Words} {e : Expr} {after : Words} �
 read_no_minus r rest =
     let b = read_begins r in
     subst (λ (w : List Lexeme). behind_sign (codes "-") (w ++ rest) ≡ None) (sym b.3)
-    (store_case b.0 b.1 b.4 (λ t. behind_sign (codes "-") (t ∷ b.2 ++ rest) ≡ None) refl refl)
+    (meaning_case Word (λ (t : Lexeme) (s : Store). behind_sign (codes "-") (t ∷ b.2 ++ rest) ≡ None) store_words b.0 b.1 b.4 (refl, (refl, tt)))
 
 pub no_minus : {room : ℕ} {ts : List Lexeme} {names : Words} {e : Expr} {after : Words} → Spells primary room ts names e after
     → (rest : List Lexeme) → behind_sign (codes "-") (ts ++ rest) ≡ None
 no_minus (literal room names n small) rest = refl
-no_minus (place room names at e is) rest = place_case at e is (λ t. behind_sign (codes "-") (t ∷ rest) ≡ None) refl refl refl refl refl refl
+no_minus (place room names at e is) rest = meaning_case Word (λ (t : Lexeme) (p : Expr). behind_sign (codes "-") (t ∷ rest) ≡ None) place_words at e is (refl, (refl, (refl, (refl, (refl, (refl, tt))))))
 no_minus (read room ts names after e r) rest = read_no_minus r rest
 no_minus (grouped room ts names after e s) rest = refl
-no_minus (called room ts us names between after a b at op is s t) rest = call_case at op is (λ w. is_sign (codes "-") w ≡ false → behind_sign (codes "-") ((w ∷ sign (codes "(") ∷ ts ++ sign (codes ",") ∷ us ++ sign (codes ")") ∷ []) ++ rest) ≡ None) (λ h. refl) (λ h. refl) (call_case at op is (λ w. is_sign (codes "-") w ≡ false) refl refl)
+no_minus (called room ts us names between after a b at op is s t) rest = meaning_case Word (λ (w : Lexeme) (o : Op). behind_sign (codes "-") ((w ∷ sign (codes "(") ∷ ts ++ sign (codes ",") ∷ us ++ sign (codes ")") ∷ []) ++ rest) ≡ None) call_words at op is (refl, (refl, tt))
 no_minus (selected room ts us vs names first second after c a b s t u) rest = refl
 
 at_unary : (reader : Reader) (depth : ℕ) (names : Words) (w : List Lexeme) → 1 ≤ depth → behind_sign (codes "-") w ≡ None → unary_at reader depth names w ≡ reader depth names w
@@ -70,15 +70,12 @@ module _ (inner : Reader) where
   unfolding primary_at leaf_at
   at_place zero names at e rest some is = absurd (omega arith)
   at_place (suc depth) names at e rest some is =
-      place_case at e is (λ t. place_of t ≡ Some e → primary_at inner (suc depth) names (t ∷ rest) ≡ Some (parsed e names rest)) same same same same same same is
-    where
-      same : {f : Expr} → Some f ≡ Some e → Some (parsed f names rest) ≡ Some (parsed e names rest)
-      same h = cc
+      meaning_case Word (λ (t : Lexeme) (p : Expr). primary_at inner (suc depth) names (t ∷ rest) ≡ Some (parsed p names rest)) place_words at e is (refl, (refl, (refl, (refl, (refl, (refl, tt))))))
 
   at_store : (depth : ℕ) (names : Words) (at : Lexeme) (store : Store) (w : List Lexeme) → 1 ≤ depth → store_of at ≡ Some store → primary_at inner depth names (at ∷ w) ≡ read_at names (at ∷ w)
   unfolding primary_at leaf_at
   at_store zero names at store w some is = absurd (omega arith)
-  at_store (suc depth) names at store w some is = store_case at store is (λ t. primary_at inner (suc depth) names (t ∷ w) ≡ read_at names (t ∷ w)) refl refl
+  at_store (suc depth) names at store w some is = meaning_case Word (λ (t : Lexeme) (s : Store). primary_at inner (suc depth) names (t ∷ w) ≡ read_at names (t ∷ w)) store_words at store is (refl, (refl, tt))
 
   at_group : (depth : ℕ) (names after : Words) (e : Expr) (w rest : List Lexeme) → 1 ≤ depth → inner depth names w ≡ Some (parsed e after (sign (codes ")") ∷ rest))
       → primary_at inner depth names (sign (codes "(") ∷ w) ≡ Some (parsed e after rest)
@@ -90,7 +87,7 @@ module _ (inner : Reader) where
   unfolding primary_at
   at_call zero names at op w some is = absurd (omega arith)
   at_call (suc depth) names at op w some is =
-      let not_group : is_sign (codes "(") at ≡ false = call_case at op is (λ t. is_sign (codes "(") t ≡ false) refl refl in
+      let not_group : is_sign (codes "(") at ≡ false = meaning_case Word (λ (t : Lexeme) (o : Op). is_sign (codes "(") t ≡ false) call_words at op is (refl, (refl, tt)) in
       rw (not_group, is) refl
 
   at_select : (depth : ℕ) (names : Words) (w : List Lexeme) → 1 ≤ depth → primary_at inner depth names (word (codes "select") ∷ w) ≡ select_at inner depth names w

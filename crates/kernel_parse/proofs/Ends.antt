@@ -2,18 +2,18 @@
 use Rattle.std.proofs.Common.{◌≡◌, ℕ, suc, ◌+◌, ◌-◌, ◌<◌, ◌≤◌, true, List, [], ◌∷◌, ◌++◌, Option, Some, None, refl, sym, ap, ◌∙◌, append_assoc, codes, arith}
 use Rattle.std.specs.Prelude.{nat_le}
 use Rattle.std.proofs.lemmas.Bool.Decides.{nat_tests}
+use Rattle.uts_lex.specs.declared.token.Kind.TheVariants.{Sign}
 use Rattle.uts_lex.specs.Lexemes.{Lexeme}
-use Rattle.kernel_ast.specs.Size.{depth_of, node_count, depth_of-Binary}
+use Rattle.kernel_ast.specs.Size.{depth_of, node_count, depth_of_positive, depth_of-Binary}
 use Rattle.kernel_ast.specs.declared.expression.Op.{Op}
 use Rattle.kernel_ast.specs.declared.expression.Expr.{Expr}
 use Rattle.kernel_ast.specs.declared.expression.Expr.TheVariants as expr
 use Rattle.kernel_parse.specs.declared.lexeme.Operators.TheVariants.{Comparison, Term, Factor}
-use Rattle.kernel_parse.specs.Signs.{sign, op_of, comparison_of, term_op_of, factor_op_of}
+use Rattle.kernel_parse.specs.Signs.{sign, op_of, comparison_signs, comparison_of, term_signs, term_op_of, factor_signs, factor_op_of}
+use Rattle.kernel_parse.specs.Tables.{meaning_case}
 use Rattle.kernel_parse.specs.Grammar.{Words}
 use Rattle.kernel_parse.specs.Reading.{behind_sign, first_as, parsed, limited, Reader, more_at, chain_at}
 use Rattle.kernel_parse.proofs.Chains.{goes_on}
-use Rattle.kernel_parse.proofs.Tables.{comparison_case, term_case, factor_case}
-use Rattle.kernel_ast.proofs.Limits.{depth_of_positive}
 
 -- what stands behind does not go on with a read, a product, a sum or a comparison
 abbrev pub AfterUnary : List Lexeme → Type 0
@@ -42,19 +42,20 @@ pub ends_at_comma : (rest : List Lexeme) → AfterWhole (sign (codes ",") ∷ re
 ends_at_comma rest = record { sum_ends = record { product_ends = record { unary_ends = refl; no_factor = refl }; no_term = refl }; no_comparison = refl }
 
 pub ends_at_comparison : (at : Lexeme) (op : Op) → comparison_of at ≡ Some op → (rest : List Lexeme) → AfterSum (at ∷ rest)
-ends_at_comparison at op is rest = comparison_case at op is (λ t. AfterSum (t ∷ rest))
-    (record { product_ends = record { unary_ends = refl; no_factor = refl }; no_term = refl })
-    (record { product_ends = record { unary_ends = refl; no_factor = refl }; no_term = refl })
-    (record { product_ends = record { unary_ends = refl; no_factor = refl }; no_term = refl })
-    (record { product_ends = record { unary_ends = refl; no_factor = refl }; no_term = refl })
-    (record { product_ends = record { unary_ends = refl; no_factor = refl }; no_term = refl })
-    (record { product_ends = record { unary_ends = refl; no_factor = refl }; no_term = refl })
+ends_at_comparison at op is rest = meaning_case Sign (λ (t : Lexeme) (o : Op). AfterSum (t ∷ rest)) comparison_signs at op is
+    (record { product_ends = record { unary_ends = refl; no_factor = refl }; no_term = refl },
+    (record { product_ends = record { unary_ends = refl; no_factor = refl }; no_term = refl },
+    (record { product_ends = record { unary_ends = refl; no_factor = refl }; no_term = refl },
+    (record { product_ends = record { unary_ends = refl; no_factor = refl }; no_term = refl },
+    (record { product_ends = record { unary_ends = refl; no_factor = refl }; no_term = refl },
+    (record { product_ends = record { unary_ends = refl; no_factor = refl }; no_term = refl }, tt))))))
 
 pub ends_at_term : (at : Lexeme) (op : Op) → term_op_of at ≡ Some op → (rest : List Lexeme) → AfterProduct (at ∷ rest)
-ends_at_term at op is rest = term_case at op is (λ t. AfterProduct (t ∷ rest)) (record { unary_ends = refl; no_factor = refl }) (record { unary_ends = refl; no_factor = refl })
+ends_at_term at op is rest = meaning_case Sign (λ (t : Lexeme) (o : Op). AfterProduct (t ∷ rest)) term_signs at op is
+    (record { unary_ends = refl; no_factor = refl }, (record { unary_ends = refl; no_factor = refl }, tt))
 
 pub ends_at_factor : (at : Lexeme) (op : Op) → factor_op_of at ≡ Some op → (rest : List Lexeme) → AfterUnary (at ∷ rest)
-ends_at_factor at op is rest = factor_case at op is (λ t. AfterUnary (t ∷ rest)) refl refl refl
+ends_at_factor at op is rest = meaning_case Sign (λ (t : Lexeme) (o : Op). AfterUnary (t ∷ rest)) factor_signs at op is (refl, (refl, (refl, tt)))
 
 -- within the limits
 pub fits : (depth : ℕ) (e : Expr) → depth_of e ≤ depth → node_count e ≤ 256 → limited depth e ≡ Some e

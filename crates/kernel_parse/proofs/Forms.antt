@@ -6,19 +6,20 @@ use Rattle.std.specs.Str.{bytes_eq}
 use Rattle.std.proofs.lemmas.Bool.Decides.{nat_tests}
 use Rattle.std.proofs.lemmas.List.{length-append}
 use Rattle.std.proofs.lemmas.List.Sums.{prefix_len-le-length}
+use Rattle.uts_lex.specs.declared.token.Kind.TheVariants.{Word}
 use Rattle.uts_lex.specs.Lexemes.{Lexeme}
 use Rattle.uts_lex.specs.Names.{number_of, with_name}
 use Rattle.kernel_ast.specs.Form.{are_leaves_in_form, is_fine, IsWithin, IsExpressionInForm, are_leaves_in_form-Literal, are_leaves_in_form-X, are_leaves_in_form-Y, are_leaves_in_form-Z, are_leaves_in_form-Level, are_leaves_in_form-Material, are_leaves_in_form-Step, are_leaves_in_form-Read, are_leaves_in_form-Number, are_leaves_in_form-Neg, are_leaves_in_form-Binary, are_leaves_in_form-Select}
 use Rattle.kernel_ast.specs.declared.expression.Op.{Op}
 use Rattle.kernel_ast.specs.declared.expression.Expr.{Expr}
 use Rattle.kernel_ast.specs.declared.expression.Expr.TheVariants as expr
-use Rattle.kernel_parse.specs.Signs.{place_of}
+use Rattle.kernel_parse.specs.Signs.{place_words, place_of}
+use Rattle.kernel_parse.specs.Tables.{meaning_case}
 use Rattle.kernel_parse.specs.Grammar.{Words, SpellsRead, own, coarse, fine, reduction, Form, Spells, one_sum, compared, one_product, added, one_unary, multiplied, one_primary, negated, literal, place, read, grouped, called, selected, SpellsExpression}
 use Rattle.kernel_parse.specs.Reading.{parsed, all_of}
 use Rattle.kernel_parse.specs.Source.{Extends}
 use Rattle.kernel_parse.specs.SourceLaws.{Extends_refl, Extends_trans, Extends_with_name, length_with_name}
 use Rattle.kernel_parse.proofs.Sound.{all_spelled}
-use Rattle.kernel_parse.proofs.Tables.{place_value}
 
 found_below : {X : Type 0} (p : X → Bool) (xs : List X) → list_any p xs ≡ true → prefix_len (λ x. not (p x)) xs < length xs
 found_below p [] e = absurd cc
@@ -66,8 +67,8 @@ read_in_form (reduction names at store name is_store free) =
     ((number_below names name).1, λ n le. are_leaves_in_form-Number n store _ ∙ name_in names name n le)
 
 place_in_form : (n : ℕ) (at : Lexeme) (e : Expr) → place_of at ≡ Some e → are_leaves_in_form n e ≡ true
-place_in_form n at e is = place_value at e is (λ e. are_leaves_in_form n e ≡ true)
-    (are_leaves_in_form-X n) (are_leaves_in_form-Y n) (are_leaves_in_form-Z n) (are_leaves_in_form-Level n) (are_leaves_in_form-Material n) (are_leaves_in_form-Step n)
+place_in_form n at e is = meaning_case Word (λ (t : Lexeme) (e : Expr). are_leaves_in_form n e ≡ true) place_words at e is
+    (are_leaves_in_form-X n, (are_leaves_in_form-Y n, (are_leaves_in_form-Z n, (are_leaves_in_form-Level n, (are_leaves_in_form-Material n, (are_leaves_in_form-Step n, tt))))))
 
 binary_in_form : (names between after : Words) (op : Op) (a b : Expr) → InForm names a between → InForm between b after → InForm names (expr.Binary op a b) after
 binary_in_form names between after op a b f g =

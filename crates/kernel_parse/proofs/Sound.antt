@@ -4,18 +4,19 @@ use Rattle.std.specs.Prelude.{◌&&◌, nat_lt, nat_le}
 use Rattle.std.specs.Option.{option_map, option_map_or}
 use Rattle.std.proofs.lemmas.List.{append-nil}
 use Rattle.std.proofs.lemmas.Bool.Decides.{nat_tests}
+use Rattle.uts_lex.specs.declared.token.Kind.TheVariants.{Word}
 use Rattle.uts_lex.specs.Lexemes.{Lexeme}
 use Rattle.kernel_ast.specs.Size.{depth_of, node_count, depth_of-Literal, depth_of-X, depth_of-Y, depth_of-Z, depth_of-Level, depth_of-Material, depth_of-Step, depth_of-Read, depth_of-Number, node_count-Literal, node_count-X, node_count-Y, node_count-Z, node_count-Level, node_count-Material, node_count-Step, node_count-Read, node_count-Number}
 use Rattle.kernel_ast.specs.declared.expression.Op.{Op}
 use Rattle.kernel_ast.specs.declared.expression.Expr.{Expr}
 use Rattle.kernel_ast.specs.declared.expression.Expr.TheVariants as expr
 use Rattle.kernel_parse.specs.declared.lexeme.Operators.TheVariants.{Comparison, Term, Factor, Call}
-use Rattle.kernel_parse.specs.Signs.{word, sign, is_word, op_of, call_of, place_of}
+use Rattle.kernel_parse.specs.Signs.{word, sign, is_word, op_of, call_of, place_words, place_of}
 use Rattle.kernel_parse.specs.Grammar.{Words, SpellsRead, own, coarse, fine, reduction, Form, whole, sum, product, unary, primary, Spells, one_sum, compared, one_product, added, one_unary, multiplied, one_primary, negated, literal, place, read, grouped, called, selected, SpellsExpression}
 use Rattle.kernel_parse.specs.Reading.{◌>>=◌, behind, behind_sign, number_of_token, first_as, Parsed, parsed, read_at, IsLeaf, limited, Reader, sized, joined, more_at, chain_at, negation_of, unary_at, behind_sign_at, closed, group_at, call_at, select_at, literal_of, atom_of, leaf_at, primary_at, product_at, sum_at, comparison_at, whole_at, expression_at, if_empty, all_of}
+use Rattle.kernel_parse.specs.Tables.{meaning_case}
 use Rattle.kernel_parse.proofs.Phrases.{joined_two, joined_three}
 use Rattle.kernel_parse.proofs.Found.{read_some}
-use Rattle.kernel_parse.proofs.Tables.{place_value}
 use Rattle.kernel_parse.specs.Firsts.{bind_some, branch_some, test_some, both, map_some, behind_sign_some, behind_word_some, first_as_some, number_some}
 
 -- at most so deep, and of at most 256 nodes
@@ -115,9 +116,9 @@ read_is_leaf (fine names at kind store how name is_store is_fine free) = record 
 read_is_leaf (reduction names at store name is_store free) = record { deep = depth_of-Number _ _; wide = node_count-Number _ _ }
 
 place_is_leaf : (t : Lexeme) (e : Expr) → place_of t ≡ Some e → IsLeaf e
-place_is_leaf t e is = place_value t e is IsLeaf
-    (record { deep = depth_of-X; wide = node_count-X }) (record { deep = depth_of-Y; wide = node_count-Y }) (record { deep = depth_of-Z; wide = node_count-Z })
-    (record { deep = depth_of-Level; wide = node_count-Level }) (record { deep = depth_of-Material; wide = node_count-Material }) (record { deep = depth_of-Step; wide = node_count-Step })
+place_is_leaf t e is = meaning_case Word (λ (t : Lexeme) (e : Expr). IsLeaf e) place_words t e is
+    (record { deep = depth_of-X; wide = node_count-X }, (record { deep = depth_of-Y; wide = node_count-Y }, (record { deep = depth_of-Z; wide = node_count-Z },
+    (record { deep = depth_of-Level; wide = node_count-Level }, (record { deep = depth_of-Material; wide = node_count-Material }, (record { deep = depth_of-Step; wide = node_count-Step }, tt))))))
 
 leaf_limits : (depth : ℕ) (e : Expr) → 1 ≤ depth → IsLeaf e → IsLimited depth e
 leaf_limits depth e some leaf = record { shallow = omega (arith, leaf.deep); few = omega (arith, leaf.wide) }

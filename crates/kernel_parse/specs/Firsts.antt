@@ -9,7 +9,7 @@ use Rattle.std.proofs.lemmas.Slice.Eq.{bytes_eq-Decides}
 use Rattle.uts_lex.specs.declared.token.Kind.{Kind}
 use Rattle.uts_lex.specs.declared.token.Kind.TheVariants.{Word, Number, Sign}
 use Rattle.uts_lex.specs.Lexemes.{Lexeme, lexeme, is_number}
-use Rattle.kernel_parse.specs.Signs.{word, number, sign, is_word_kind, is_number_kind, is_sign_kind, is_word, is_sign, is_reserved}
+use Rattle.kernel_parse.specs.Signs.{word, number, sign, is_word_kind, is_number_kind, is_kind, is_lexeme, is_word, is_sign, is_reserved}
 use Rattle.kernel_parse.specs.Reading.{◌>>=◌, behind, behind_sign, number_of_token, name_of_token, first_as}
 use Rattle.kernel_parse.specs.Numbers.{number_is_decimal}
 
@@ -33,20 +33,16 @@ both false b e = absurd cc
 
 -- ---- tokens
 
-sign_kind : (kind : Kind) → is_sign_kind kind ≡ true → kind ≡ Sign
-sign_kind Word e = absurd cc
-sign_kind Number e = absurd cc
-sign_kind Sign e = refl
-
-word_kind : (kind : Kind) → is_word_kind kind ≡ true → kind ≡ Word
-word_kind Word e = refl
-word_kind Number e = absurd cc
-word_kind Sign e = absurd cc
-
-number_kind : (kind : Kind) → is_number_kind kind ≡ true → kind ≡ Number
-number_kind Word e = absurd cc
-number_kind Number e = refl
-number_kind Sign e = absurd cc
+kind_is : (kind other : Kind) → is_kind kind other ≡ true → other ≡ kind
+kind_is Word Word e = refl
+kind_is Word Number e = absurd cc
+kind_is Word Sign e = absurd cc
+kind_is Number Word e = absurd cc
+kind_is Number Number e = refl
+kind_is Number Sign e = absurd cc
+kind_is Sign Word e = absurd cc
+kind_is Sign Number e = absurd cc
+kind_is Sign Sign e = refl
 
 lexeme_is : (t : Lexeme) (kind : Kind) (bytes : List ℕ) → t.kind ≡ kind → t.bytes ≡ bytes → t ≡ lexeme kind bytes
 lexeme_is t kind bytes k b = let e : lexeme t.kind t.bytes ≡ lexeme kind bytes = cc in e
@@ -54,11 +50,14 @@ lexeme_is t kind bytes k b = let e : lexeme t.kind t.bytes ≡ lexeme kind bytes
 same_bytes : (a b : List ℕ) → bytes_eq a b ≡ true → a ≡ b
 same_bytes a b e = grind (arith, nat_tests, bytes_eq-Decides)
 
+pub is_lexeme_true : (kind : Kind) (bytes : List ℕ) (t : Lexeme) → is_lexeme kind bytes t ≡ true → t ≡ lexeme kind bytes
+is_lexeme_true kind bytes t e = let p = both _ _ e in lexeme_is t kind bytes (kind_is kind t.kind p.0) (same_bytes t.bytes bytes p.1)
+
 pub is_sign_true : (bytes : List ℕ) (t : Lexeme) → is_sign bytes t ≡ true → t ≡ sign bytes
-is_sign_true bytes t e = let p = both _ _ e in lexeme_is t Sign bytes (sign_kind t.kind p.0) (same_bytes t.bytes bytes p.1)
+is_sign_true bytes t e = is_lexeme_true Sign bytes t e
 
 pub is_word_true : (bytes : List ℕ) (t : Lexeme) → is_word bytes t ≡ true → t ≡ word bytes
-is_word_true bytes t e = let p = both _ _ e in lexeme_is t Word bytes (word_kind t.kind p.0) (same_bytes t.bytes bytes p.1)
+is_word_true bytes t e = is_lexeme_true Word bytes t e
 
 pub behind_some : (test : Lexeme → Bool) (ts rest : List Lexeme) → behind test ts ≡ Some rest → (t : Lexeme) × (ts ≡ t ∷ rest) × (test t ≡ true)
 behind_some test [] rest e = absurd cc
@@ -86,7 +85,7 @@ number_some t n e =
     let p = test_some (is_number_kind t.kind && is_number t.bytes) (digits_value 10 t.bytes) n e in
     let q = both _ _ p.0 in
     let d = number_is_decimal t.bytes q.1 in
-    (rw (← p.1) (lexeme_is t Number _ (number_kind t.kind q.0) d.1), rw (← p.1) d.0)
+    (rw (← p.1) (lexeme_is t Number _ (kind_is Number t.kind q.0) d.1), rw (← p.1) d.0)
 
 name_in : (kind : Kind) (bytes name : List ℕ) (b : Bool) → (if is_word_kind kind then (if b then None else Some bytes) else None) ≡ Some name → (kind ≡ Word) × (b ≡ false) × (bytes ≡ name)
 name_in Word bytes name true e = absurd cc

@@ -4,6 +4,7 @@ pub mod Reading
 pub mod Source
 pub mod Numbers
 pub mod Firsts
+pub mod Tables
 pub mod SourceLaws
 pub mod LineTokens
 pub mod Signed

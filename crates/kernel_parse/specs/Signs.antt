@@ -1,5 +1,6 @@
 -- The tokens that expressions are written with.
 use Rattle.std.specs.Prelude.{ℕ, Bool, true, false, ◌&&◌, List, ◌∷◌, [], Option, Some, None, codes, decimal, if◌then◌else◌}
+use Rattle.std.specs.Borrow.{Bor}
 use Rattle.std.specs.List.{list_any}
 use Rattle.std.specs.Str.{bytes_eq}
 use Rattle.uts_lex.specs.declared.token.Kind.{Kind}
@@ -40,46 +41,67 @@ is_sign_kind Word = false
 is_sign_kind Number = false
 is_sign_kind Sign = true
 
+abbrev pub is_kind : Kind → Kind → Bool
+is_kind Word kind = is_word_kind kind
+is_kind Number kind = is_number_kind kind
+is_kind Sign kind = is_sign_kind kind
+
+-- whether the token is of the kind, and of these bytes
+abbrev pub is_lexeme : Kind → List ℕ → Lexeme → Bool
+is_lexeme kind bytes token = is_kind kind token.kind && bytes_eq token.bytes bytes
+
 -- whether the token is this word
 abbrev pub is_word : List ℕ → Lexeme → Bool
-is_word bytes token = is_word_kind token.kind && bytes_eq token.bytes bytes
+is_word bytes token = is_lexeme Word bytes token
 
 -- whether the token is this sign
 abbrev pub is_sign : List ℕ → Lexeme → Bool
-is_sign bytes token = is_sign_kind token.kind && bytes_eq token.bytes bytes
+is_sign bytes token = is_lexeme Sign bytes token
 
--- `<` `<=` `>` `>=` `==` `!=`
+-- what the token means, by a table of tokens of a kind
+abbrev pub meaning_of : {A : Type 0} → Kind → List (List ℕ × A) → Lexeme → Option A
+meaning_of kind [] token = None
+meaning_of kind (entry ∷ table) token = if is_lexeme kind entry.0 token then Some entry.1 else meaning_of kind table token
+
+-- by a table of words
+abbrev pub meaning_in : {A : Type 0} → List (List ℕ × A) → Lexeme → Option A
+meaning_in table token = meaning_of Word table token
+
+-- a line of a table, of bytes that the code refers to
+abbrev pub entry_of : {A : Type 0} → Bor (List ℕ) × A → List ℕ × A
+entry_of entry = (entry.0.now, entry.1)
+
+abbrev pub comparison_signs : List (List ℕ × Op)
+comparison_signs =
+    (codes "<", op.Lt)
+    ∷ (codes "<=", op.Le)
+    ∷ (codes ">", op.Gt)
+    ∷ (codes ">=", op.Ge)
+    ∷ (codes "==", op.Eq)
+    ∷ (codes "!=", op.Ne)
+    ∷ []
+
 abbrev pub comparison_of : Lexeme → Option Op
-comparison_of token =
-    if is_sign (codes "<") token then Some op.Lt
-    else (if is_sign (codes "<=") token then Some op.Le
-    else (if is_sign (codes ">") token then Some op.Gt
-    else (if is_sign (codes ">=") token then Some op.Ge
-    else (if is_sign (codes "==") token then Some op.Eq
-    else (if is_sign (codes "!=") token then Some op.Ne
-    else None)))))
+comparison_of token = meaning_of Sign comparison_signs token
 
--- `+` and `-`
+abbrev pub term_signs : List (List ℕ × Op)
+term_signs = (codes "+", op.Add) ∷ (codes "-", op.Sub) ∷ []
+
 abbrev pub term_op_of : Lexeme → Option Op
-term_op_of token =
-    if is_sign (codes "+") token then Some op.Add
-    else (if is_sign (codes "-") token then Some op.Sub
-    else None)
+term_op_of token = meaning_of Sign term_signs token
 
--- `*`, `/` and `%`
+abbrev pub factor_signs : List (List ℕ × Op)
+factor_signs = (codes "*", op.Mul) ∷ (codes "/", op.Div) ∷ (codes "%", op.Rem) ∷ []
+
 abbrev pub factor_op_of : Lexeme → Option Op
-factor_op_of token =
-    if is_sign (codes "*") token then Some op.Mul
-    else (if is_sign (codes "/") token then Some op.Div
-    else (if is_sign (codes "%") token then Some op.Rem
-    else None))
+factor_op_of token = meaning_of Sign factor_signs token
 
--- `min` and `max`, before their two arguments
+-- the words before two arguments
+abbrev pub call_words : List (List ℕ × Op)
+call_words = (codes "min", op.Min) ∷ (codes "max", op.Max) ∷ []
+
 abbrev pub call_of : Lexeme → Option Op
-call_of token =
-    if is_word (codes "min") token then Some op.Min
-    else (if is_word (codes "max") token then Some op.Max
-    else None)
+call_of token = meaning_in call_words token
 
 -- the operators of a kind
 abbrev pub op_of : Operators → Lexeme → Option Op
@@ -88,32 +110,36 @@ op_of operators.Term token = term_op_of token
 op_of operators.Factor token = factor_op_of token
 op_of operators.Call token = call_of token
 
--- `x`, `y`, `z`, `level`, `material` and `step`
+abbrev pub place_words : List (List ℕ × Expr)
+place_words =
+    (codes "x", expr.X)
+    ∷ (codes "y", expr.Y)
+    ∷ (codes "z", expr.Z)
+    ∷ (codes "level", expr.Level)
+    ∷ (codes "material", expr.Material)
+    ∷ (codes "step", expr.Step)
+    ∷ []
+
 abbrev pub place_of : Lexeme → Option Expr
-place_of token =
-    if is_word (codes "x") token then Some expr.X
-    else (if is_word (codes "y") token then Some expr.Y
-    else (if is_word (codes "z") token then Some expr.Z
-    else (if is_word (codes "level") token then Some expr.Level
-    else (if is_word (codes "material") token then Some expr.Material
-    else (if is_word (codes "step") token then Some expr.Step
-    else None)))))
+place_of token = meaning_in place_words token
 
--- `old` and `new`
+abbrev pub store_words : List (List ℕ × Store)
+store_words = (codes "old", store.Old) ∷ (codes "new", store.New) ∷ []
+
 abbrev pub store_of : Lexeme → Option Store
-store_of token =
-    if is_word (codes "old") token then Some store.Old
-    else (if is_word (codes "new") token then Some store.New
-    else None)
+store_of token = meaning_in store_words token
 
--- `fine_sum`, `fine_min`, `fine_max` and `fine_count`
+-- the reductions of the values one level finer
+abbrev pub fine_words : List (List ℕ × How)
+fine_words =
+    (codes "fine_sum", how.FineSum)
+    ∷ (codes "fine_min", how.FineMin)
+    ∷ (codes "fine_max", how.FineMax)
+    ∷ (codes "fine_count", how.FineCount)
+    ∷ []
+
 abbrev pub fine_of : Lexeme → Option How
-fine_of token =
-    if is_word (codes "fine_sum") token then Some how.FineSum
-    else (if is_word (codes "fine_min") token then Some how.FineMin
-    else (if is_word (codes "fine_max") token then Some how.FineMax
-    else (if is_word (codes "fine_count") token then Some how.FineCount
-    else None)))
+fine_of token = meaning_in fine_words token
 
 -- the words that are no names
 abbrev pub is_reserved : List ℕ → Bool

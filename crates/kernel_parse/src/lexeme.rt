@@ -1,8 +1,8 @@
 //! What single tokens mean in an expression.
-ghost use Rattle.std.specs.Prelude.{◌≡◌, IfSome};
+ghost use Rattle.std.specs.Prelude.{◌≡◌, IfSome, map};
 ghost use Rattle.std.specs.Option.{option_map};
 ghost use Rattle.uts_lex.specs.Tokens.{lexeme_at};
-ghost use Rattle.kernel_parse.specs.Signs.{is_word, is_sign, comparison_of, term_op_of, factor_op_of, call_of, op_of, place_of, store_of, fine_of, is_reserved};
+ghost use Rattle.kernel_parse.specs.Signs.{is_lexeme, meaning_of, entry_of, op_of, place_of, is_reserved};
 ghost use Rattle.kernel_parse.specs.Reading.{number_of_token, name_of_token, atom_of, IsLeaf};
 ghost use Rattle.kernel_parse.specs.Source.{LiesIn};
 
@@ -20,20 +20,54 @@ pub(crate) enum Operators {
     Call,
 }
 
-/// Whether the token is this sign.
-pub(crate) fn is_sign(text: &[u8], token: &Token, bytes: &[u8]) -> bool
+const COMPARISONS: [(&[u8], Op); 6] = [
+    (b"<", Op::Lt),
+    (b"<=", Op::Le),
+    (b">", Op::Gt),
+    (b">=", Op::Ge),
+    (b"==", Op::Eq),
+    (b"!=", Op::Ne),
+];
+
+const TERM_OPERATORS: [(&[u8], Op); 2] = [(b"+", Op::Add), (b"-", Op::Sub)];
+
+const FACTOR_OPERATORS: [(&[u8], Op); 3] = [(b"*", Op::Mul), (b"/", Op::Div), (b"%", Op::Rem)];
+
+const CALLS: [(&[u8], Op); 2] = [(b"min", Op::Min), (b"max", Op::Max)];
+
+pub(crate) const STORES: [(&[u8], Store); 2] = [(b"old", Store::Old), (b"new", Store::New)];
+
+pub(crate) const FINE_FORMS: [(&[u8], How); 4] = [
+    (b"fine_sum", How::FineSum),
+    (b"fine_min", How::FineMin),
+    (b"fine_max", How::FineMax),
+    (b"fine_count", How::FineCount),
+];
+
+/// Whether the token is of this kind, and of these bytes.
+pub(crate) fn is_lexeme(text: &[u8], token: &Token, kind: Kind, bytes: &[u8]) -> bool
     requires { LiesIn text.now token.now }
-    ensures { result ≡ is_sign bytes.now (lexeme_at text.now token.now) }
+    ensures { result ≡ is_lexeme kind bytes.now (lexeme_at text.now token.now) }
 {
-    token.kind == Kind::Sign && token.bytes_in(text) == bytes
+    token.kind == kind && token.bytes_in(text) == bytes
 }
 
-/// Whether the token is this word.
-pub(crate) fn is_word(text: &[u8], token: &Token, bytes: &[u8]) -> bool
+/// What the token means, by a table of tokens of this kind.
+pub(crate) fn meaning_of<T: Copy>(
+    text: &[u8],
+    token: &Token,
+    kind: Kind,
+    table: &[(&[u8], T)],
+) -> Option<T>
     requires { LiesIn text.now token.now }
-    ensures { result ≡ is_word bytes.now (lexeme_at text.now token.now) }
+    ensures { result ≡ meaning_of kind (map entry_of table.now) (lexeme_at text.now token.now) }
 {
-    token.kind == Kind::Word && token.bytes_in(text) == bytes
+    for (bytes, meaning) in table {
+        if is_lexeme(text, token, kind, bytes) {
+            return Some(*meaning);
+        }
+    }
+    None
 }
 
 /// The operator of this kind that the token stands for.
@@ -42,71 +76,10 @@ pub(crate) fn operator_of(text: &[u8], token: &Token, kind: Operators) -> Option
     ensures { result ≡ op_of kind (lexeme_at text.now token.now) }
 {
     match kind {
-        Operators::Comparison => comparison_of(text, token),
-        Operators::Term => term_op_of(text, token),
-        Operators::Factor => factor_op_of(text, token),
-        Operators::Call => call_of(text, token),
-    }
-}
-
-fn comparison_of(text: &[u8], token: &Token) -> Option<Op>
-    requires { LiesIn text.now token.now }
-    ensures { result ≡ comparison_of (lexeme_at text.now token.now) }
-{
-    if token.kind != Kind::Sign {
-        return None;
-    }
-    match token.bytes_in(text) {
-        b"<" => Some(Op::Lt),
-        b"<=" => Some(Op::Le),
-        b">" => Some(Op::Gt),
-        b">=" => Some(Op::Ge),
-        b"==" => Some(Op::Eq),
-        b"!=" => Some(Op::Ne),
-        _ => None,
-    }
-}
-
-fn term_op_of(text: &[u8], token: &Token) -> Option<Op>
-    requires { LiesIn text.now token.now }
-    ensures { result ≡ term_op_of (lexeme_at text.now token.now) }
-{
-    if token.kind != Kind::Sign {
-        return None;
-    }
-    match token.bytes_in(text) {
-        b"+" => Some(Op::Add),
-        b"-" => Some(Op::Sub),
-        _ => None,
-    }
-}
-
-fn factor_op_of(text: &[u8], token: &Token) -> Option<Op>
-    requires { LiesIn text.now token.now }
-    ensures { result ≡ factor_op_of (lexeme_at text.now token.now) }
-{
-    if token.kind != Kind::Sign {
-        return None;
-    }
-    match token.bytes_in(text) {
-        b"*" => Some(Op::Mul),
-        b"/" => Some(Op::Div),
-        b"%" => Some(Op::Rem),
-        _ => None,
-    }
-}
-
-fn call_of(text: &[u8], token: &Token) -> Option<Op>
-    requires { LiesIn text.now token.now }
-    ensures { result ≡ call_of (lexeme_at text.now token.now) }
-{
-    if token.kind != Kind::Word {
-        return None;
-    }
-    match token.bytes_in(text) {
-        b"min" => Some(Op::Min),
-        b"max" => Some(Op::Max),
-        _ => None,
+        Operators::Comparison => meaning_of(text, token, Kind::Sign, &COMPARISONS),
+        Operators::Term => meaning_of(text, token, Kind::Sign, &TERM_OPERATORS),
+        Operators::Factor => meaning_of(text, token, Kind::Sign, &FACTOR_OPERATORS),
+        Operators::Call => meaning_of(text, token, Kind::Word, &CALLS),
     }
 }
 
@@ -116,50 +89,20 @@ fn place_of(text: &[u8], token: &Token) -> Option<Expr>
     ensures place { result ≡ place_of (lexeme_at text.now token.now) }
     ensures leaf { IfSome result (λ e. IsLeaf e) }
 {
-    if is_word(text, token, b"x") {
+    if is_lexeme(text, token, Kind::Word, b"x") {
         Some(Expr::X)
-    } else if is_word(text, token, b"y") {
+    } else if is_lexeme(text, token, Kind::Word, b"y") {
         Some(Expr::Y)
-    } else if is_word(text, token, b"z") {
+    } else if is_lexeme(text, token, Kind::Word, b"z") {
         Some(Expr::Z)
-    } else if is_word(text, token, b"level") {
+    } else if is_lexeme(text, token, Kind::Word, b"level") {
         Some(Expr::Level)
-    } else if is_word(text, token, b"material") {
+    } else if is_lexeme(text, token, Kind::Word, b"material") {
         Some(Expr::Material)
-    } else if is_word(text, token, b"step") {
+    } else if is_lexeme(text, token, Kind::Word, b"step") {
         Some(Expr::Step)
     } else {
         None
-    }
-}
-
-pub(crate) fn store_of(text: &[u8], token: &Token) -> Option<Store>
-    requires { LiesIn text.now token.now }
-    ensures { result ≡ store_of (lexeme_at text.now token.now) }
-{
-    if token.kind != Kind::Word {
-        return None;
-    }
-    match token.bytes_in(text) {
-        b"old" => Some(Store::Old),
-        b"new" => Some(Store::New),
-        _ => None,
-    }
-}
-
-pub(crate) fn fine_of(text: &[u8], token: &Token) -> Option<How>
-    requires { LiesIn text.now token.now }
-    ensures { result ≡ fine_of (lexeme_at text.now token.now) }
-{
-    if token.kind != Kind::Word {
-        return None;
-    }
-    match token.bytes_in(text) {
-        b"fine_sum" => Some(How::FineSum),
-        b"fine_min" => Some(How::FineMin),
-        b"fine_max" => Some(How::FineMax),
-        b"fine_count" => Some(How::FineCount),
-        _ => None,
     }
 }
 

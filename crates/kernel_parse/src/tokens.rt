@@ -1,15 +1,15 @@
 //! What stands first among some tokens of a text, and the tokens behind it.
-ghost use Rattle.std.specs.Prelude.{◌≡◌, All, IfSome};
+ghost use Rattle.std.specs.Prelude.{◌≡◌, All, IfSome, map};
 ghost use Rattle.std.specs.Option.{option_map};
-ghost use Rattle.kernel_parse.specs.Signs.{is_word, op_of, store_of, fine_of};
+ghost use Rattle.kernel_parse.specs.Signs.{is_word, meaning_in, entry_of, op_of, store_of, fine_of};
 ghost use Rattle.kernel_parse.specs.Reading.{behind, behind_sign, first_as, number_of_token, name_of_token, atom_of, dot_name_at, signed_at, IsLeaf};
 ghost use Rattle.kernel_parse.specs.Source.{LiesIn, IsBehind, lexemes};
 
 use crate::lexeme::{
-    Operators, atom_of, fine_of, is_sign, is_word, name_of, number_of, operator_of, store_of,
+    FINE_FORMS, Operators, STORES, atom_of, is_lexeme, meaning_of, name_of, number_of, operator_of,
 };
 use kernel_ast::{Expr, How, Op, Store};
-use uts_lex::Token;
+use uts_lex::{Kind, Token};
 
 /// The tokens behind the sign, where it stands first.
 pub fn behind_sign<'a>(text: &[u8], tokens: &'a [Token], bytes: &[u8]) -> Option<&'a [Token]>
@@ -18,7 +18,7 @@ pub fn behind_sign<'a>(text: &[u8], tokens: &'a [Token], bytes: &[u8]) -> Option
     ensures rest { IfSome result (λ rest. IsBehind text.now tokens.now rest.now) }
 {
     let (first, rest) = tokens.split_first()?;
-    if is_sign(text, first, bytes) {
+    if is_lexeme(text, first, Kind::Sign, bytes) {
         Some(rest)
     } else {
         None
@@ -32,7 +32,7 @@ pub fn behind_word<'a>(text: &[u8], tokens: &'a [Token], bytes: &[u8]) -> Option
     ensures rest { IfSome result (λ rest. IsBehind text.now tokens.now rest.now) }
 {
     let (first, rest) = tokens.split_first()?;
-    if is_word(text, first, bytes) {
+    if is_lexeme(text, first, Kind::Word, bytes) {
         Some(rest)
     } else {
         None
@@ -53,14 +53,27 @@ pub(crate) fn split_operator<'a>(
     Some((operator_of(text, first, kind)?, rest))
 }
 
+/// What the first token means, by a table of words, and the tokens behind it.
+pub fn split_meaning<'a, T: Copy>(
+    text: &[u8],
+    tokens: &'a [Token],
+    table: &[(&[u8], T)],
+) -> Option<(T, &'a [Token])>
+    requires { All (LiesIn text.now) tokens.now }
+    ensures read { option_map (λ r. (r.0, lexemes text.now r.1.now)) result ≡ first_as (meaning_in (map entry_of table.now)) (lexemes text.now tokens.now) }
+    ensures rest { IfSome result (λ r. IsBehind text.now tokens.now r.1.now) }
+{
+    let (first, rest) = tokens.split_first()?;
+    Some((meaning_of(text, first, Kind::Word, table)?, rest))
+}
+
 /// `old` or `new`, and the tokens behind it.
 pub fn split_store<'a>(text: &[u8], tokens: &'a [Token]) -> Option<(Store, &'a [Token])>
     requires { All (LiesIn text.now) tokens.now }
     ensures read { option_map (λ r. (r.0, lexemes text.now r.1.now)) result ≡ first_as store_of (lexemes text.now tokens.now) }
     ensures rest { IfSome result (λ r. IsBehind text.now tokens.now r.1.now) }
 {
-    let (first, rest) = tokens.split_first()?;
-    Some((store_of(text, first)?, rest))
+    split_meaning(text, tokens, &STORES)
 }
 
 pub(crate) fn split_fine<'a>(text: &[u8], tokens: &'a [Token]) -> Option<(How, &'a [Token])>
@@ -68,8 +81,7 @@ pub(crate) fn split_fine<'a>(text: &[u8], tokens: &'a [Token]) -> Option<(How, &
     ensures read { option_map (λ r. (r.0, lexemes text.now r.1.now)) result ≡ first_as fine_of (lexemes text.now tokens.now) }
     ensures rest { IfSome result (λ r. IsBehind text.now tokens.now r.1.now) }
 {
-    let (first, rest) = tokens.split_first()?;
-    Some((fine_of(text, first)?, rest))
+    split_meaning(text, tokens, &FINE_FORMS)
 }
 
 /// A number below 2^64, and the tokens behind it.
