@@ -3,10 +3,10 @@ use Rattle.std.specs.Prelude.{ℕ, List, [], ◌∷◌, Option, Some, None, code
 use Rattle.std.specs.Borrow.{Bor}
 use Rattle.uts_lex.specs.Lexemes.{Lexeme}
 use Rattle.kernel_parse.specs.Signs.{is_word}
-use Rattle.statement_parse.specs.declared.statement.StatementKind.{StatementKind}
-use Rattle.statement_parse.specs.declared.statement.StatementKind.TheVariants as kind
 use Rattle.uts_geom.specs.declared.centring.Centring.{Centring}
 use Rattle.uts_geom.specs.declared.centring.Centring.TheVariants as centring
+use Rattle.statement_parse.specs.declared.statement.StatementKind.{StatementKind}
+use Rattle.statement_parse.specs.declared.statement.StatementKind.TheVariants as kind
 use Rattle.problem_types.specs.declared.problem.Fold.{Fold}
 use Rattle.problem_types.specs.declared.problem.Fold.TheVariants as fold
 use Rattle.problem_types.specs.declared.problem.GhostKind.{GhostKind}

@@ -1,7 +1,6 @@
 //! Numbers, names and layers, as pieces of a statement.
-ghost use Rattle.std.specs.Prelude.{◌≡◌, ◌↔◌, [], All, IfOk, IfSome, IsTrue, Err};
+ghost use Rattle.std.specs.Prelude.{◌≡◌, [], All, IfOk, IfSome, Err};
 ghost use Rattle.std.specs.Option.{option_map};
-ghost use Rattle.std.specs.List.Sorted.{IsStrictlyIncreasing};
 ghost use Rattle.kernel_parse.specs.Reading.{if_empty};
 ghost use Rattle.kernel_parse.specs.Source.{LiesIn, IsBehind, lexemes};
 ghost use Rattle.statement_parse.specs.Reading.{Gives, number_at, some_number_at, version_at, ratio_at, corner_at, corners_at, is_list, numbers_from, list_at, last_list_at, name_at, var_parts_at, fold_parts_at, layers_at, layered_at};
@@ -10,7 +9,7 @@ use crate::fault::StatementFault;
 use crate::statement::Corners;
 use crate::words::{CENTRINGS, FOLDS, GHOSTS, split_meaning};
 use kernel_parse::{behind_word, split_name, split_number, split_signed};
-use problem_types::{Centring, Fold, Ghost, GhostKind};
+use problem_types::{Centring, Fold, Ghost, GhostKind, is_ascending};
 use sqlite_items::Items;
 use std::alloc::Global;
 use uts_lex::Token;
@@ -82,17 +81,6 @@ pub(crate) fn corners(text: &[u8], tokens: &[Token]) -> Option<Corners>
     let (lo, rest) = corner(text, tokens)?;
     let (hi, rest) = corner(text, rest)?;
     at_end(text, rest, Corners { lo, hi })
-}
-
-fn is_ascending(numbers: &[u64]) -> bool
-    ensures { IsTrue result ↔ IsStrictlyIncreasing numbers.now }
-{
-    for i in 1..numbers.len() {
-        if numbers[i - 1] >= numbers[i] {
-            return false;
-        }
-    }
-    true
 }
 
 /// Whether there is a number, and each is above the one before.
