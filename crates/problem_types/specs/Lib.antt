@@ -1,6 +1,7 @@
 pub mod Form
 pub mod Lists
 pub mod Regions
+pub mod Levels
 pub mod WholeField
 pub mod Ascent
 pub mod Dump
