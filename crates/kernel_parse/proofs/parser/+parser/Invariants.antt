@@ -9,13 +9,13 @@ abbrev pub decreases-expression : goal.decreases-expression
 decreases-expression l = 256 * l.levels
 
 abbrev pub decreases-comparison : goal.decreases-comparison
-decreases-comparison l = 256 * l.levels + 90
+decreases-comparison l = 256 * l.levels + 220
 
 abbrev pub decreases-chain : goal.decreases-chain
-decreases-chain l = 256 * l.levels + 2 * rank l.kind + 81
+decreases-chain l = 256 * l.levels + 2 * l.depth + 2 * rank l.kind + 71
 
 abbrev pub decreases-operand : goal.decreases-operand
-decreases-operand l = 256 * l.levels + 2 * rank l.kind + 80
+decreases-operand l = 256 * l.levels + 2 * l.depth + 2 * rank l.kind + 70
 
 abbrev pub decreases-unary : goal.decreases-unary
 decreases-unary l = 256 * l.levels + l.depth + 4
