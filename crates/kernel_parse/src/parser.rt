@@ -27,7 +27,6 @@ fn expression<'a>(
     depth: u32,
 ) -> Result<(Tree, &'a [Token]), ExprFault>
     requires readable { CanRead text.now names.old tokens.now }
-    requires levels_fit { levels ≤ 65 }
     requires depth_fits { depth ≤ 64 }
     ensures read { Gives NoMemory (λ r. parsed r.0.expr names.new (lexemes text.now r.1.now)) result (expression_at levels depth names.old (lexemes text.now tokens.now)) }
     ensures rest { IfOk result (λ r. CanRead text.now names.new r.1.now) }
@@ -51,7 +50,6 @@ fn comparison<'a>(
     depth: u32,
 ) -> Result<(Tree, &'a [Token]), ExprFault>
     requires readable { CanRead text.now names.old tokens.now }
-    requires levels_fit { levels ≤ 65 }
     requires depth_fits { depth ≤ 64 }
     ensures read { Gives NoMemory (λ r. parsed r.0.expr names.new (lexemes text.now r.1.now)) result (whole_at (expression_at levels) depth names.old (lexemes text.now tokens.now)) }
     ensures rest { IfOk result (λ r. CanRead text.now names.new r.1.now) }
@@ -86,7 +84,6 @@ fn chain<'a>(
     depth: u32,
 ) -> Result<(Tree, &'a [Token]), ExprFault>
     requires readable { CanRead text.now names.old tokens.now }
-    requires levels_fit { levels ≤ 65 }
     requires depth_fits { depth ≤ 64 }
     ensures read { Gives NoMemory (λ r. parsed r.0.expr names.new (lexemes text.now r.1.now)) result (chain_of kind (expression_at levels) depth names.old (lexemes text.now tokens.now)) }
     ensures rest { IfOk result (λ r. CanRead text.now names.new r.1.now) }
@@ -117,7 +114,6 @@ fn operand<'a>(
     depth: u32,
 ) -> Result<(Tree, &'a [Token]), ExprFault>
     requires readable { CanRead text.now names.old tokens.now }
-    requires levels_fit { levels ≤ 65 }
     requires depth_fits { depth ≤ 64 }
     ensures read { Gives NoMemory (λ r. parsed r.0.expr names.new (lexemes text.now r.1.now)) result (operand_at kind (expression_at levels) depth names.old (lexemes text.now tokens.now)) }
     ensures rest { IfOk result (λ r. CanRead text.now names.new r.1.now) }
@@ -141,7 +137,6 @@ fn unary<'a>(
     depth: u32,
 ) -> Result<(Tree, &'a [Token]), ExprFault>
     requires readable { CanRead text.now names.old tokens.now }
-    requires levels_fit { levels ≤ 65 }
     requires depth_fits { depth ≤ 64 }
     ensures read { Gives NoMemory (λ r. parsed r.0.expr names.new (lexemes text.now r.1.now)) result (unary_at (primary_at (expression_at levels)) depth names.old (lexemes text.now tokens.now)) }
     ensures rest { IfOk result (λ r. CanRead text.now names.new r.1.now) }
@@ -169,7 +164,6 @@ fn primary<'a>(
     depth: u32,
 ) -> Result<(Tree, &'a [Token]), ExprFault>
     requires readable { CanRead text.now names.old tokens.now }
-    requires levels_fit { levels ≤ 65 }
     requires depth_fits { depth ≤ 64 }
     ensures read { Gives NoMemory (λ r. parsed r.0.expr names.new (lexemes text.now r.1.now)) result (primary_at (expression_at levels) depth names.old (lexemes text.now tokens.now)) }
     ensures rest { IfOk result (λ r. CanRead text.now names.new r.1.now) }
@@ -205,7 +199,6 @@ fn argument<'a>(
     depth: u32,
 ) -> Result<(Tree, &'a [Token]), ExprFault>
     requires readable { CanRead text.now names.old tokens.now }
-    requires levels_fit { levels ≤ 65 }
     requires depth_fits { depth ≤ 64 }
     ensures read { Gives NoMemory (λ r. parsed r.0.expr names.new (lexemes text.now r.1.now)) result (behind_sign_at sign.now (expression_at levels) depth names.old (lexemes text.now tokens.now)) }
     ensures rest { IfOk result (λ r. CanRead text.now names.new r.1.now) }
@@ -228,7 +221,6 @@ fn call<'a>(
     depth: u32,
 ) -> Result<(Tree, &'a [Token]), ExprFault>
     requires readable { CanRead text.now names.old tokens.now }
-    requires levels_fit { levels ≤ 65 }
     requires depth_fits { depth ≤ 64 }
     ensures read { Gives NoMemory (λ r. parsed r.0.expr names.new (lexemes text.now r.1.now)) result (call_at (expression_at levels) op depth names.old (lexemes text.now tokens.now)) }
     ensures rest { IfOk result (λ r. CanRead text.now names.new r.1.now) }
@@ -253,7 +245,6 @@ fn select<'a>(
     depth: u32,
 ) -> Result<(Tree, &'a [Token]), ExprFault>
     requires readable { CanRead text.now names.old tokens.now }
-    requires levels_fit { levels ≤ 65 }
     requires depth_fits { depth ≤ 64 }
     ensures read { Gives NoMemory (λ r. parsed r.0.expr names.new (lexemes text.now r.1.now)) result (select_at (expression_at levels) depth names.old (lexemes text.now tokens.now)) }
     ensures rest { IfOk result (λ r. CanRead text.now names.new r.1.now) }
