@@ -27,7 +27,8 @@ use Rattle.statement_parse.specs.declared.statement.StatementKind.TheVariants as
 use Rattle.statement_parse.specs.Tables.{statement_words, statement_kind_of, centring_of, fold_of, ghosts_of}
 use Rattle.statement_parse.specs.Grammar.{Fits, IsFree, AreNumbers, SpellsCorners, corners, SpellsLayers, no_layers, layers, SpellsWhat, same_level, coarser, finer, reduction, SpellsTarget, computes, modifies, reduces, SpellsStatement, version, steps, dump, ghost_limit, materials, level, box, patch, var, fold, init, task, requirement, timestep, keep, end}
 use Rattle.statement_parse.specs.Reading.{Stated, stated, number_at, some_number_at, corner_at, corners_at, list_at, last_list_at, version_at, ratio_at, unnamed_at, name_at, var_parts_at, var_at, fold_parts_at, fold_at, keep_at, task_at, ghost_of, layers_at, layered_at, coarse_at, fine_at, own_at, what_at, requirement_at, said_at, statement_at, named_target_at, reduced_target_at, target_at}
-use Rattle.statement_parse.proofs.Tables.{meaning_case}
+use Rattle.uts_lex.specs.declared.token.Kind.TheVariants.{Word}
+use Rattle.kernel_parse.specs.Tables.{meaning_case}
 use Rattle.statement_parse.proofs.Lists.{list_some}
 
 -- ---- pieces
@@ -281,7 +282,7 @@ first_word kind.End = codes "end"
 kind_some : (t : Lexeme) (k : StatementKind) → statement_kind_of t ≡ Some k → t ≡ word (first_word k)
 unfolding first_word
 kind_some t k e =
-    meaning_case (λ (l : Lexeme) (x : StatementKind). l ≡ word (first_word x)) statement_words t k e
+    meaning_case Word (λ (l : Lexeme) (x : StatementKind). l ≡ word (first_word x)) statement_words t k e
     (refl, (refl, (refl, (refl, (refl, (refl, (refl, (refl, (refl, (refl, (refl, (refl, (refl, (refl, (refl, (refl, tt))))))))))))))))
 
 module _ (names : Words) where

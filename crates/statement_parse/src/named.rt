@@ -9,8 +9,8 @@ use crate::pieces::{
     var_parts, version,
 };
 use crate::statement::{Statement, StatementKind};
-use crate::words::{STATEMENTS, split_meaning};
-use kernel_parse::{behind_word, split_name, split_store};
+use crate::words::STATEMENTS;
+use kernel_parse::{behind_word, split_meaning, split_name, split_store};
 use problem_types::What;
 use std::alloc::Global;
 use uts_lex::{Names, Token};

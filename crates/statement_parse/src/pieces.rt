@@ -7,8 +7,8 @@ ghost use Rattle.statement_parse.specs.Reading.{Gives, number_at, some_number_at
 
 use crate::fault::StatementFault;
 use crate::statement::Corners;
-use crate::words::{CENTRINGS, FOLDS, GHOSTS, split_meaning};
-use kernel_parse::{behind_word, split_name, split_number, split_signed};
+use crate::words::{CENTRINGS, FOLDS, GHOSTS};
+use kernel_parse::{behind_word, split_meaning, split_name, split_number, split_signed};
 use problem_types::{Centring, Fold, Ghost, GhostKind, is_ascending};
 use sqlite_items::Items;
 use std::alloc::Global;

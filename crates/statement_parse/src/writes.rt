@@ -9,8 +9,8 @@ ghost use Rattle.statement_parse.specs.Reading.{target_at, IsWritten};
 
 use crate::fault::StatementFault;
 use crate::statement::Statement;
-use crate::words::{CENTRINGS, split_meaning};
-use kernel_parse::{ExprFault, behind_sign, behind_word, parse_expr, split_name};
+use crate::words::CENTRINGS;
+use kernel_parse::{ExprFault, behind_sign, behind_word, parse_expr, split_meaning, split_name};
 use problem_types::WriteKind;
 use std::alloc::Global;
 use uts_lex::{Names, Token};
