@@ -23,7 +23,7 @@ use Rattle.statement_parse.specs.declared.statement.Statement.{Statement}
 use Rattle.statement_parse.specs.declared.statement.Statement.TheVariants as statement
 use Rattle.statement_parse.specs.declared.statement.StatementKind.{StatementKind}
 use Rattle.statement_parse.specs.declared.statement.StatementKind.TheVariants as kind
-use Rattle.statement_parse.specs.Tables.{statement_kind_of, centring_of, fold_of, ghosts_of}
+use Rattle.statement_parse.specs.Tables.{statement_kind_of, centring_of, fold_of, ghosts_of, write_of}
 
 -- What a function returned, seen by view, is what reading gives, unless memory ran out.
 abbrev pub Fails : {Y : Type 0} → StatementFault → Option Y → Type 0
@@ -229,10 +229,8 @@ reduced_target_at ts = do
 -- what is written, and the tokens behind the `=`
 unfoldable pub target_at : List Lexeme → Option (List ℕ × WriteKind × List Lexeme)
 target_at ts =
-    option_map_or (λ rest. named_target_at write.Computes rest) (behind (is_word (codes "computes")) ts)
-    (option_map_or (λ rest. named_target_at write.Modifies rest) (behind (is_word (codes "modifies")) ts)
-    (option_map_or (λ rest. reduced_target_at rest) (behind (is_word (codes "reduces")) ts)
-    None))
+    option_map_or (λ kind. named_target_at kind.0 kind.1) (first_as write_of ts)
+    (behind (is_word (codes "reduces")) ts >>= λ rest. reduced_target_at rest)
 
 -- the statement writes what the tokens spell
 pub record IsWritten (ts : List Lexeme) (names : Words) (kind : WriteKind) (name : List ℕ) (s : Statement) (after : Words) : Type 0 where

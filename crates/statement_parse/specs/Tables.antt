@@ -10,6 +10,8 @@ use Rattle.problem_types.specs.declared.problem.Fold.{Fold}
 use Rattle.problem_types.specs.declared.problem.Fold.TheVariants as fold
 use Rattle.problem_types.specs.declared.problem.GhostKind.{GhostKind}
 use Rattle.problem_types.specs.declared.problem.GhostKind.TheVariants as ghosts
+use Rattle.problem_types.specs.declared.problem.WriteKind.{WriteKind}
+use Rattle.problem_types.specs.declared.problem.WriteKind.TheVariants as write
 
 -- the first word of each statement that does not write
 abbrev pub statement_words : List (List ℕ × StatementKind)
@@ -65,3 +67,10 @@ ghosts_words =
 
 abbrev pub ghosts_of : Lexeme → Option GhostKind
 ghosts_of token = meaning_in ghosts_words token
+
+-- what is written to a name alone
+abbrev pub write_words : List (List ℕ × WriteKind)
+write_words = (codes "computes", write.Computes) ∷ (codes "modifies", write.Modifies) ∷ []
+
+abbrev pub write_of : Lexeme → Option WriteKind
+write_of token = meaning_in write_words token

@@ -1,6 +1,6 @@
 //! Words that have a meaning in a statement.
 use crate::statement::StatementKind;
-use problem_types::{Centring, Fold, GhostKind};
+use problem_types::{Centring, Fold, GhostKind, WriteKind};
 
 pub(crate) const STATEMENTS: [(&[u8], StatementKind); 16] = [
     (b"problem", StatementKind::Version),
@@ -41,4 +41,9 @@ pub(crate) const GHOSTS: [(&[u8], GhostKind); 5] = [
     (b"facex", GhostKind::FaceX),
     (b"facey", GhostKind::FaceY),
     (b"facez", GhostKind::FaceZ),
+];
+
+pub(crate) const WRITES: [(&[u8], WriteKind); 2] = [
+    (b"computes", WriteKind::Computes),
+    (b"modifies", WriteKind::Modifies),
 ];
