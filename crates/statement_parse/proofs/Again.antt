@@ -23,7 +23,8 @@ use Rattle.statement_parse.specs.declared.statement.Statement.TheVariants as sta
 use Rattle.statement_parse.specs.Tables.{ghosts_words}
 use Rattle.statement_parse.specs.Grammar.{Fits, IsFree, AreNumbers, SpellsCorners, corners, SpellsLayers, no_layers, layers, SpellsWhat, same_level, coarser, finer, reduction, SpellsTarget, computes, modifies, reduces, SpellsStatement, version, steps, dump, ghost_limit, materials, level, box, patch, var, fold, init, task, requirement, writes, timestep, keep, end}
 use Rattle.statement_parse.specs.Reading.{stated, number_at, some_number_at, corner_at, corners_at, list_at, last_list_at, version_at, ratio_at, unnamed_at, name_at, var_parts_at, var_at, fold_parts_at, fold_at, keep_at, task_at, layers_at, layered_at, coarse_at, fine_at, own_at, what_at, requirement_at, said_at, statement_at, target_at}
-use Rattle.statement_parse.proofs.Tables.{meaning_case}
+use Rattle.uts_lex.specs.declared.token.Kind.TheVariants.{Word}
+use Rattle.kernel_parse.specs.Tables.{meaning_case}
 use Rattle.statement_parse.proofs.Lists.{list_again}
 
 -- ---- pieces
@@ -61,7 +62,7 @@ unfolding layers_at
 layers_again no_layers = refl
 layers_again (layers at kind n is some small) =
     let not_none : is_word (codes "none") at ≡ false =
-    meaning_case (λ (t : Lexeme) (k : GhostKind). is_word (codes "none") t ≡ false) ghosts_words at kind is (refl, (refl, (refl, (refl, (refl, tt))))) in
+    meaning_case Word (λ (t : Lexeme) (k : GhostKind). is_word (codes "none") t ≡ false) ghosts_words at kind is (refl, (refl, (refl, (refl, (refl, tt))))) in
     rw (not_none, is, some_number_again n small some) refl
 
 layered_again : (name : List ℕ) (ts : List Lexeme) (g : Ghost) → IsFree name → SpellsLayers ts g → layered_at (word name ∷ ts) ≡ Some (name, g)

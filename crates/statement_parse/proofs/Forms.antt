@@ -23,7 +23,8 @@ use Rattle.statement_parse.specs.Tables.{ghosts_words, ghosts_of}
 use Rattle.statement_parse.specs.Form.{IsStatementInForm}
 use Rattle.statement_parse.specs.Laws.{FewNewNames, StatementsAreInForm}
 use Rattle.statement_parse.specs.Grammar.{AreNumbers, SpellsLayers, no_layers, layers, SpellsWhat, same_level, coarser, finer, reduction, SpellsTarget, computes, modifies, reduces, SpellsStatement, version, steps, dump, ghost_limit, materials, level, box, patch, var, fold, init, task, requirement, writes, timestep, keep, end}
-use Rattle.statement_parse.proofs.Tables.{meaning_case}
+use Rattle.uts_lex.specs.declared.token.Kind.TheVariants.{Word}
+use Rattle.kernel_parse.specs.Tables.{meaning_case}
 
 -- ---- the words behind
 
@@ -113,7 +114,7 @@ below : (names : Words) (name : List ℕ) (known : ℕ) → length (with_name na
 below names name known le = let h = number_below names name in omega arith
 
 ghosts_number : (n : ℕ) (kind : GhostKind) (at : Lexeme) → ghosts_of at ≡ Some kind → 1 ≤ n → IsLayerNumber n kind
-ghosts_number n kind at is some = meaning_case (λ (t : Lexeme) (k : GhostKind). IsLayerNumber n k) ghosts_words at kind is (some, (some, (some, (some, (some, tt)))))
+ghosts_number n kind at is some = meaning_case Word (λ (t : Lexeme) (k : GhostKind). IsLayerNumber n k) ghosts_words at kind is (some, (some, (some, (some, (some, tt)))))
 
 layers_in_form : {ts : List Lexeme} {g : Ghost} → SpellsLayers ts g → AreLayersInForm g
 layers_in_form no_layers = refl

@@ -24,10 +24,11 @@ use Rattle.statement_parse.specs.declared.statement.Statement.{Statement}
 use Rattle.statement_parse.specs.declared.statement.Statement.TheVariants as statement
 use Rattle.statement_parse.specs.declared.statement.StatementKind.{StatementKind}
 use Rattle.statement_parse.specs.declared.statement.StatementKind.TheVariants as kind
-use Rattle.statement_parse.specs.Tables.{statement_words, statement_kind_of, centring_of, fold_of, ghosts_of}
+use Rattle.statement_parse.specs.Tables.{statement_words, statement_kind_of, centring_of, fold_of, ghosts_of, write_words, write_of}
 use Rattle.statement_parse.specs.Grammar.{Fits, IsFree, AreNumbers, SpellsCorners, corners, SpellsLayers, no_layers, layers, SpellsWhat, same_level, coarser, finer, reduction, SpellsTarget, computes, modifies, reduces, SpellsStatement, version, steps, dump, ghost_limit, materials, level, box, patch, var, fold, init, task, requirement, timestep, keep, end}
 use Rattle.statement_parse.specs.Reading.{Stated, stated, number_at, some_number_at, corner_at, corners_at, list_at, last_list_at, version_at, ratio_at, unnamed_at, name_at, var_parts_at, var_at, fold_parts_at, fold_at, keep_at, task_at, ghost_of, layers_at, layered_at, coarse_at, fine_at, own_at, what_at, requirement_at, said_at, statement_at, named_target_at, reduced_target_at, target_at}
-use Rattle.statement_parse.proofs.Tables.{meaning_case}
+use Rattle.uts_lex.specs.declared.token.Kind.TheVariants.{Word}
+use Rattle.kernel_parse.specs.Tables.{meaning_case}
 use Rattle.statement_parse.proofs.Lists.{list_some}
 
 -- ---- pieces
@@ -45,9 +46,6 @@ keyword_case bytes f d ts y P e taken other =
       | inl b ↦ subst P (sym (behind_word_some bytes ts b.0 b.1)) (taken b.0 b.2)
       | inr b ↦ other b.1
     ]
-
-no_more : {B : Type 0} (y : B) (P : Type 0) → None ≡ Some y → P
-no_more y P e = absurd cc
 
 first_number : (ts : List Lexeme) (n : ℕ × List Lexeme) → first_as number_of_token ts ≡ Some n → (ts ≡ number n.0 ∷ n.1) × (n.0 < 2 ^ 64)
 first_number ts n e =
@@ -281,7 +279,7 @@ first_word kind.End = codes "end"
 kind_some : (t : Lexeme) (k : StatementKind) → statement_kind_of t ≡ Some k → t ≡ word (first_word k)
 unfolding first_word
 kind_some t k e =
-    meaning_case (λ (l : Lexeme) (x : StatementKind). l ≡ word (first_word x)) statement_words t k e
+    meaning_case Word (λ (l : Lexeme) (x : StatementKind). l ≡ word (first_word x)) statement_words t k e
     (refl, (refl, (refl, (refl, (refl, (refl, (refl, (refl, (refl, (refl, (refl, (refl, (refl, (refl, (refl, (refl, tt))))))))))))))))
 
 module _ (names : Words) where
@@ -503,13 +501,17 @@ reduced_target_some ts r e =
       free = n.1;
     })
 
+written_so : (t : Lexeme) (kind : WriteKind) → write_of t ≡ Some kind → (name : List ℕ) → SpellsTarget (t ∷ word name ∷ []) name kind
+written_so t kind is = meaning_case Word (λ (l : Lexeme) (k : WriteKind). (name : List ℕ) → SpellsTarget (l ∷ word name ∷ []) name k) write_words t kind is (computes, (modifies, tt))
+
 pub target_some : (ts : List Lexeme) (r : List ℕ × WriteKind × List Lexeme) → target_at ts ≡ Some r → TakesTarget ts r
 unfolding target_at
 target_some ts r e =
-    keyword_case (codes "computes") (λ rest. named_target_at write.Computes rest) (option_map_or (λ rest. named_target_at write.Modifies rest) (behind (is_word (codes "modifies")) ts) (option_map_or (λ rest. reduced_target_at rest) (behind (is_word (codes "reduces")) ts) None)) ts r (λ w. TakesTarget w r) e
-    (λ rest h. named_target_some (word (codes "computes")) write.Computes computes rest r h)
-    (λ h. keyword_case (codes "modifies") (λ rest. named_target_at write.Modifies rest) (option_map_or (λ rest. reduced_target_at rest) (behind (is_word (codes "reduces")) ts) None) ts r (λ w. TakesTarget w r) h
-    (λ rest h. named_target_some (word (codes "modifies")) write.Modifies modifies rest r h)
-    (λ h. keyword_case (codes "reduces") (λ rest. reduced_target_at rest) None ts r (λ w. TakesTarget w r) h
-    (λ rest h. reduced_target_some rest r h)
-    (λ h. no_more r (TakesTarget ts r) h)))
+    elim (branch_some (λ (kind : WriteKind × List Lexeme). named_target_at kind.0 kind.1) (first_as write_of ts) (behind (is_word (codes "reduces")) ts >>= λ rest. reduced_target_at rest) r e) [
+      | inl b ↦
+          let t = first_as_some write_of ts b.0.0 b.0.1 b.1 in
+          subst (λ (w : List Lexeme). TakesTarget w r) (sym t.1) (named_target_some t.0 b.0.0 (written_so t.0 b.0.0 t.2) b.0.1 r b.2)
+      | inr b ↦
+          let p = bind_some (behind (is_word (codes "reduces")) ts) (λ (rest : List Lexeme). reduced_target_at rest) r b.1 in
+          subst (λ (w : List Lexeme). TakesTarget w r) (sym (behind_word_some (codes "reduces") ts p.0 p.1)) (reduced_target_some p.0 r p.2)
+    ]

@@ -1,4 +1,3 @@
-pub mod Tables
 pub mod Lists
 pub mod Found
 pub mod Ends

@@ -1,5 +1,5 @@
 -- Reading a statement from the left, token by token.
-use Rattle.std.specs.Prelude.{◌≡◌, ℕ, ◌==◌, ℤ, Bool, true, ◌&&◌, List, [], ◌∷◌, ◌++◌, length, Option, Some, None, Result, Ok, Err, nat_lt, nat_le, codes, if◌then◌else◌}
+use Rattle.std.specs.Prelude.{◌≡◌, ℕ, ◌==◌, ℤ, Bool, true, ◌&&◌, List, [], ◌∷◌, ◌++◌, length, Option, Some, None, nat_lt, nat_le, codes, if◌then◌else◌}
 use Rattle.std.specs.Option.{option_map, option_map_or}
 use Rattle.uts_lex.specs.Lexemes.{Lexeme}
 use Rattle.uts_lex.specs.Names.{number_of, with_name}
@@ -16,23 +16,12 @@ use Rattle.problem_types.specs.declared.problem.What.{What}
 use Rattle.problem_types.specs.declared.problem.What.TheVariants as what
 use Rattle.problem_types.specs.declared.problem.WriteKind.{WriteKind}
 use Rattle.problem_types.specs.declared.problem.WriteKind.TheVariants as write
-use Rattle.statement_parse.specs.declared.fault.StatementFault.{StatementFault}
-use Rattle.statement_parse.specs.declared.fault.StatementFault.TheVariants as faults
 use Rattle.statement_parse.specs.declared.statement.Corners.{Corners}
 use Rattle.statement_parse.specs.declared.statement.Statement.{Statement}
 use Rattle.statement_parse.specs.declared.statement.Statement.TheVariants as statement
 use Rattle.statement_parse.specs.declared.statement.StatementKind.{StatementKind}
 use Rattle.statement_parse.specs.declared.statement.StatementKind.TheVariants as kind
-use Rattle.statement_parse.specs.Tables.{statement_kind_of, centring_of, fold_of, ghosts_of}
-
--- What a function returned, seen by view, is what reading gives, unless memory ran out.
-abbrev pub Fails : {Y : Type 0} → StatementFault → Option Y → Type 0
-Fails faults.NoMemory read = Unit {0}
-Fails faults.BadStatement read = read ≡ None
-
-abbrev pub Gives : {X Y : Type 0} → (X → Y) → Result X StatementFault → Option Y → Type 0
-Gives view (Ok x) read = read ≡ Some (view x)
-Gives view (Err e) read = Fails e read
+use Rattle.statement_parse.specs.Tables.{statement_kind_of, centring_of, fold_of, ghosts_of, write_of}
 
 -- a statement, and the words behind it
 pub record Stated : Type 0 where
@@ -229,10 +218,8 @@ reduced_target_at ts = do
 -- what is written, and the tokens behind the `=`
 unfoldable pub target_at : List Lexeme → Option (List ℕ × WriteKind × List Lexeme)
 target_at ts =
-    option_map_or (λ rest. named_target_at write.Computes rest) (behind (is_word (codes "computes")) ts)
-    (option_map_or (λ rest. named_target_at write.Modifies rest) (behind (is_word (codes "modifies")) ts)
-    (option_map_or (λ rest. reduced_target_at rest) (behind (is_word (codes "reduces")) ts)
-    None))
+    option_map_or (λ kind. named_target_at kind.0 kind.1) (first_as write_of ts)
+    (behind (is_word (codes "reduces")) ts >>= λ rest. reduced_target_at rest)
 
 -- the statement writes what the tokens spell
 pub record IsWritten (ts : List Lexeme) (names : Words) (kind : WriteKind) (name : List ℕ) (s : Statement) (after : Words) : Type 0 where

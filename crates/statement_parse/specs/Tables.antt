@@ -1,8 +1,7 @@
 -- Words that have a meaning in a statement.
-use Rattle.std.specs.Prelude.{ℕ, List, [], ◌∷◌, Option, Some, None, codes, if◌then◌else◌}
-use Rattle.std.specs.Borrow.{Bor}
+use Rattle.std.specs.Prelude.{ℕ, List, [], ◌∷◌, Option, codes}
 use Rattle.uts_lex.specs.Lexemes.{Lexeme}
-use Rattle.kernel_parse.specs.Signs.{is_word}
+use Rattle.kernel_parse.specs.Signs.{meaning_in}
 use Rattle.uts_geom.specs.declared.centring.Centring.{Centring}
 use Rattle.uts_geom.specs.declared.centring.Centring.TheVariants as centring
 use Rattle.statement_parse.specs.declared.statement.StatementKind.{StatementKind}
@@ -11,15 +10,8 @@ use Rattle.problem_types.specs.declared.problem.Fold.{Fold}
 use Rattle.problem_types.specs.declared.problem.Fold.TheVariants as fold
 use Rattle.problem_types.specs.declared.problem.GhostKind.{GhostKind}
 use Rattle.problem_types.specs.declared.problem.GhostKind.TheVariants as ghosts
-
--- what the token means, by a table of words
-abbrev pub meaning_in : {A : Type 0} → List (List ℕ × A) → Lexeme → Option A
-meaning_in [] token = None
-meaning_in (entry ∷ table) token = if is_word entry.0 token then Some entry.1 else meaning_in table token
-
--- a line of a table, of a word that the code refers to
-abbrev pub entry_of : {A : Type 0} → Bor (List ℕ) × A → List ℕ × A
-entry_of entry = (entry.0.now, entry.1)
+use Rattle.problem_types.specs.declared.problem.WriteKind.{WriteKind}
+use Rattle.problem_types.specs.declared.problem.WriteKind.TheVariants as write
 
 -- the first word of each statement that does not write
 abbrev pub statement_words : List (List ℕ × StatementKind)
@@ -75,3 +67,10 @@ ghosts_words =
 
 abbrev pub ghosts_of : Lexeme → Option GhostKind
 ghosts_of token = meaning_in ghosts_words token
+
+-- what is written to a name alone
+abbrev pub write_words : List (List ℕ × WriteKind)
+write_words = (codes "computes", write.Computes) ∷ (codes "modifies", write.Modifies) ∷ []
+
+abbrev pub write_of : Lexeme → Option WriteKind
+write_of token = meaning_in write_words token

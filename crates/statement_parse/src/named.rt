@@ -1,7 +1,8 @@
 //! Statements from tokens, all but those that write.
 ghost use Rattle.std.specs.Prelude.{◌≡◌, All};
+ghost use Rattle.kernel_parse.specs.Reading.{Gives};
 ghost use Rattle.kernel_parse.specs.Source.{LiesIn, CanRead, Extends, lexemes};
-ghost use Rattle.statement_parse.specs.Reading.{Gives, stated, unnamed_at, var_at, fold_at, keep_at, task_at, coarse_at, fine_at, own_at, what_at, requirement_at, statement_at};
+ghost use Rattle.statement_parse.specs.Reading.{stated, unnamed_at, var_at, fold_at, keep_at, task_at, coarse_at, fine_at, own_at, what_at, requirement_at, statement_at};
 
 use crate::fault::StatementFault;
 use crate::pieces::{
@@ -9,8 +10,8 @@ use crate::pieces::{
     var_parts, version,
 };
 use crate::statement::{Statement, StatementKind};
-use crate::words::{STATEMENTS, split_meaning};
-use kernel_parse::{behind_word, split_name, split_store};
+use crate::words::STATEMENTS;
+use kernel_parse::{behind_word, split_meaning, split_name, split_store};
 use problem_types::What;
 use std::alloc::Global;
 use uts_lex::{Names, Token};
@@ -40,7 +41,7 @@ fn unnamed(text: &[u8], kind: StatementKind, tokens: &[Token]) -> Option<Stateme
 #[tactic(auto, using(kernel_parse::specs::SourceLaws::kept_words), unfolding(crate::specs::Reading::var_at))]
 fn var(text: &[u8], tokens: &[Token], names: &mut Names) -> Result<Statement, StatementFault>
     requires { CanRead text.now names.old tokens.now }
-    ensures read { Gives (λ s. stated s names.new) result (var_at names.old (lexemes text.now tokens.now)) }
+    ensures read { Gives StatementFault.NoMemory (λ s. stated s names.new) result (var_at names.old (lexemes text.now tokens.now)) }
     ensures kept { Extends names.old names.new }
 {
     let (name, centring, outside) = var_parts(text, tokens).ok_or(StatementFault::BadStatement)?;
@@ -55,7 +56,7 @@ fn var(text: &[u8], tokens: &[Token], names: &mut Names) -> Result<Statement, St
 #[tactic(auto, using(kernel_parse::specs::SourceLaws::kept_words), unfolding(crate::specs::Reading::fold_at))]
 fn reduction(text: &[u8], tokens: &[Token], names: &mut Names) -> Result<Statement, StatementFault>
     requires { CanRead text.now names.old tokens.now }
-    ensures read { Gives (λ s. stated s names.new) result (fold_at names.old (lexemes text.now tokens.now)) }
+    ensures read { Gives StatementFault.NoMemory (λ s. stated s names.new) result (fold_at names.old (lexemes text.now tokens.now)) }
     ensures kept { Extends names.old names.new }
 {
     let (name, fold) = fold_parts(text, tokens).ok_or(StatementFault::BadStatement)?;
@@ -66,7 +67,7 @@ fn reduction(text: &[u8], tokens: &[Token], names: &mut Names) -> Result<Stateme
 #[tactic(auto, using(kernel_parse::specs::SourceLaws::kept_words), unfolding(crate::specs::Reading::keep_at))]
 fn keep(text: &[u8], tokens: &[Token], names: &mut Names) -> Result<Statement, StatementFault>
     requires { CanRead text.now names.old tokens.now }
-    ensures read { Gives (λ s. stated s names.new) result (keep_at names.old (lexemes text.now tokens.now)) }
+    ensures read { Gives StatementFault.NoMemory (λ s. stated s names.new) result (keep_at names.old (lexemes text.now tokens.now)) }
     ensures kept { Extends names.old names.new }
 {
     let name = name(text, tokens).ok_or(StatementFault::BadStatement)?;
@@ -81,7 +82,7 @@ fn task(
     names: &mut Names,
 ) -> Result<Statement, StatementFault>
     requires { CanRead text.now names.old tokens.now }
-    ensures read { Gives (λ s. stated s names.new) result (task_at names.old (lexemes text.now tokens.now)) }
+    ensures read { Gives StatementFault.NoMemory (λ s. stated s names.new) result (task_at names.old (lexemes text.now tokens.now)) }
     ensures kept { Extends names.old names.new }
 {
     let (name, rest) = split_name(text, tokens).ok_or(StatementFault::BadStatement)?;
@@ -101,7 +102,7 @@ fn task(
 #[tactic(auto, using(kernel_parse::specs::SourceLaws::kept_words), unfolding(crate::specs::Reading::coarse_at))]
 fn coarse(text: &[u8], tokens: &[Token], names: &mut Names) -> Result<What, StatementFault>
     requires { CanRead text.now names.old tokens.now }
-    ensures read { Gives (λ w. (w, names.new)) result (coarse_at names.old (lexemes text.now tokens.now)) }
+    ensures read { Gives StatementFault.NoMemory (λ w. (w, names.new)) result (coarse_at names.old (lexemes text.now tokens.now)) }
     ensures kept { Extends names.old names.new }
 {
     let (name, layers) = layered(text, tokens).ok_or(StatementFault::BadStatement)?;
@@ -113,7 +114,7 @@ fn coarse(text: &[u8], tokens: &[Token], names: &mut Names) -> Result<What, Stat
 #[tactic(auto, using(kernel_parse::specs::SourceLaws::kept_words), unfolding(crate::specs::Reading::fine_at))]
 fn fine(text: &[u8], tokens: &[Token], names: &mut Names) -> Result<What, StatementFault>
     requires { CanRead text.now names.old tokens.now }
-    ensures read { Gives (λ w. (w, names.new)) result (fine_at names.old (lexemes text.now tokens.now)) }
+    ensures read { Gives StatementFault.NoMemory (λ w. (w, names.new)) result (fine_at names.old (lexemes text.now tokens.now)) }
     ensures kept { Extends names.old names.new }
 {
     let name = name(text, tokens).ok_or(StatementFault::BadStatement)?;
@@ -125,7 +126,7 @@ fn fine(text: &[u8], tokens: &[Token], names: &mut Names) -> Result<What, Statem
 #[tactic(auto, using(kernel_parse::specs::SourceLaws::kept_words), unfolding(crate::specs::Reading::own_at))]
 fn own(text: &[u8], tokens: &[Token], names: &mut Names) -> Result<What, StatementFault>
     requires { CanRead text.now names.old tokens.now }
-    ensures read { Gives (λ w. (w, names.new)) result (own_at names.old (lexemes text.now tokens.now)) }
+    ensures read { Gives StatementFault.NoMemory (λ w. (w, names.new)) result (own_at names.old (lexemes text.now tokens.now)) }
     ensures kept { Extends names.old names.new }
 {
     if let Some(name) = name(text, tokens) {
@@ -140,7 +141,7 @@ fn own(text: &[u8], tokens: &[Token], names: &mut Names) -> Result<What, Stateme
 #[tactic(auto, unfolding(crate::specs::Reading::what_at))]
 fn what(text: &[u8], tokens: &[Token], names: &mut Names) -> Result<What, StatementFault>
     requires { CanRead text.now names.old tokens.now }
-    ensures read { Gives (λ w. (w, names.new)) result (what_at names.old (lexemes text.now tokens.now)) }
+    ensures read { Gives StatementFault.NoMemory (λ w. (w, names.new)) result (what_at names.old (lexemes text.now tokens.now)) }
     ensures kept { Extends names.old names.new }
 {
     if let Some(rest) = behind_word(text, tokens, b"coarse") {
@@ -159,7 +160,7 @@ fn requirement(
     names: &mut Names,
 ) -> Result<Statement, StatementFault>
     requires { CanRead text.now names.old tokens.now }
-    ensures read { Gives (λ s. stated s names.new) result (requirement_at names.old (lexemes text.now tokens.now)) }
+    ensures read { Gives StatementFault.NoMemory (λ s. stated s names.new) result (requirement_at names.old (lexemes text.now tokens.now)) }
     ensures kept { Extends names.old names.new }
 {
     let (store, rest) = split_store(text, tokens).ok_or(StatementFault::BadStatement)?;
@@ -176,7 +177,7 @@ pub(crate) fn statement(
     names: &mut Names,
 ) -> Result<Statement, StatementFault>
     requires { CanRead text.now names.old tokens.now }
-    ensures read { Gives (λ s. stated s names.new) result (statement_at names.old (lexemes text.now tokens.now)) }
+    ensures read { Gives StatementFault.NoMemory (λ s. stated s names.new) result (statement_at names.old (lexemes text.now tokens.now)) }
     ensures kept { Extends names.old names.new }
 {
     let (kind, rest) = split_meaning(text, tokens, &STATEMENTS).ok_or(

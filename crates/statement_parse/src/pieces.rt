@@ -1,14 +1,14 @@
 //! Numbers, names and layers, as pieces of a statement.
 ghost use Rattle.std.specs.Prelude.{◌≡◌, [], All, IfOk, IfSome, Err};
 ghost use Rattle.std.specs.Option.{option_map};
-ghost use Rattle.kernel_parse.specs.Reading.{if_empty};
+ghost use Rattle.kernel_parse.specs.Reading.{Gives, if_empty};
 ghost use Rattle.kernel_parse.specs.Source.{LiesIn, IsBehind, lexemes};
-ghost use Rattle.statement_parse.specs.Reading.{Gives, number_at, some_number_at, version_at, ratio_at, corner_at, corners_at, is_list, numbers_from, list_at, last_list_at, name_at, var_parts_at, fold_parts_at, layers_at, layered_at};
+ghost use Rattle.statement_parse.specs.Reading.{number_at, some_number_at, version_at, ratio_at, corner_at, corners_at, is_list, numbers_from, list_at, last_list_at, name_at, var_parts_at, fold_parts_at, layers_at, layered_at};
 
 use crate::fault::StatementFault;
 use crate::statement::Corners;
-use crate::words::{CENTRINGS, FOLDS, GHOSTS, split_meaning};
-use kernel_parse::{behind_word, split_name, split_number, split_signed};
+use crate::words::{CENTRINGS, FOLDS, GHOSTS};
+use kernel_parse::{behind_word, split_meaning, split_name, split_number, split_signed};
 use problem_types::{Centring, Fold, Ghost, GhostKind, is_ascending};
 use sqlite_items::Items;
 use std::alloc::Global;
@@ -118,7 +118,7 @@ pub(crate) fn list<'a>(
     tokens: &'a [Token],
 ) -> Result<(Items<u64>, &'a [Token]), StatementFault>
     requires { All (LiesIn text.now) tokens.now }
-    ensures read { Gives (λ r. (r.0, lexemes text.now r.1.now)) result (list_at (lexemes text.now tokens.now)) }
+    ensures read { Gives StatementFault.NoMemory (λ r. (r.0, lexemes text.now r.1.now)) result (list_at (lexemes text.now tokens.now)) }
     ensures rest { IfOk result (λ r. All (LiesIn text.now) r.1.now) }
 {
     let (numbers, rest) = numbers(alloc, text, tokens)?;
@@ -137,7 +137,7 @@ pub(crate) fn last_list(
     tokens: &[Token],
 ) -> Result<Items<u64>, StatementFault>
     requires { All (LiesIn text.now) tokens.now }
-    ensures { Gives (λ numbers. numbers) result (last_list_at (lexemes text.now tokens.now)) }
+    ensures { Gives StatementFault.NoMemory (λ numbers. numbers) result (last_list_at (lexemes text.now tokens.now)) }
 {
     let (numbers, rest) = list(alloc, text, tokens)?;
     at_end(text, rest, numbers).ok_or(StatementFault::BadStatement)
