@@ -46,11 +46,23 @@ fn is_level_sayable(level: &Level) -> bool
         && level.patches.as_slice().iter().all(is_box_sayable)
 }
 
+fn are_levels_sayable(levels: &[Level]) -> bool
+    ensures { IsTrue result ↔ All IsLevelSayable levels.now }
+{
+    levels.iter().all(is_level_sayable)
+}
+
 fn is_var_sayable(var: &Var) -> bool
     ensures { IsTrue result ↔ FitsSigned w64 var.now.outside }
 {
     let _outside = var.outside;
     true
+}
+
+fn are_vars_sayable(vars: &[Var]) -> bool
+    ensures { IsTrue result ↔ All (λ v. FitsSigned w64 v.outside) vars.now }
+{
+    vars.iter().all(is_var_sayable)
 }
 
 fn are_layers_sayable(layers: Ghost) -> bool
@@ -108,8 +120,8 @@ fn are_parts_sayable(p: &Problem, names: usize) -> bool
     ensures { IsTrue result ↔ AreStatementsSayable names p.now }
 {
     is_head_sayable(p)
-        && p.levels.as_slice().iter().all(is_level_sayable)
-        && p.vars.as_slice().iter().all(is_var_sayable)
+        && are_levels_sayable(p.levels.as_slice())
+        && are_vars_sayable(p.vars.as_slice())
         && are_tasks_sayable(p.init.as_slice(), names)
         && are_tasks_sayable(p.timestep.as_slice(), names)
 }
