@@ -120,7 +120,7 @@ pub(crate) fn name_of<'a>(text: &'a [u8], token: &Token) -> Option<&'a [u8]>
     if is_reserved(word) { None } else { Some(word) }
 }
 
-/// Whether the word is none that may be a name.
+/// Whether the word may be no name.
 pub fn is_reserved(word: &[u8]) -> bool
     ensures { result ≡ is_reserved word.now }
 {

@@ -12,6 +12,7 @@ use crate::tree::{MAX_DEPTH, Tree, binary, negation, selection};
 use kernel_ast::Op;
 use std::alloc::Global;
 use uts_lex::{Names, Token};
+
 /// The most parentheses that may be open at once.
 const MAX_OPEN: u32 = 64;
 
