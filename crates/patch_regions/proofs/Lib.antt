@@ -1,0 +1,5 @@
+pub mod Meeting
+pub mod Tiling
+pub mod Found
+pub mod Touched
+pub mod Halves

@@ -1,0 +1,17 @@
+//! What the patches of a level own, and which patches a span touches. `docs/grid.md` states the rules.
+#![tactic(auto)]
+
+mod laws;
+mod lines;
+mod owners;
+mod ownership;
+#[cfg(test)]
+mod tests;
+mod touches;
+
+pub use laws::{owned_spans_tile, spans_meet_in_indexes};
+pub use lines::{index_space, patch_box};
+pub use owners::owner;
+pub use ownership::owned;
+pub use problem_types::NoMemory;
+pub use touches::touching;

@@ -1,0 +1,45 @@
+//! Which patches a span touches.
+ghost use Rattle.std.specs.Prelude.{◌≡◌, ◌++◌, ◌∷◌, [], IfOk, OnOk, if◌then◌else◌};
+ghost use Rattle.problem_types.specs.Levels.{KeepsGridLimits};
+ghost use Rattle.patch_regions.specs.Regions.{do_meet, has_indexes, touching_patches};
+
+use crate::lines::patch_count;
+use crate::ownership::owned;
+use problem_types::{Level, NoMemory};
+use std::alloc::{AllocError, Global};
+use uts_geom::{Centring, Span, meet};
+
+fn has_indexes(s: Span) -> bool
+    ensures { result ≡ has_indexes s }
+{
+    s.lo.x < s.hi.x && s.lo.y < s.hi.y && s.lo.z < s.hi.z
+}
+
+/// Whether the spans have an index in common.
+fn do_meet(a: Span, b: Span) -> bool
+    ensures { result ≡ do_meet a b }
+{
+    has_indexes(meet(a, b))
+}
+
+// Puts the patch at the end where it touches.
+fn put_if(touches: bool, patch: u32, found: &mut Vec<u32>) -> Result<(), AllocError>
+    ensures { OnOk result (found.new.items ≡ found.old.items ++ (if touches then patch ∷ [] else [])) }
+{
+    if touches {
+        found.push(patch)?;
+    }
+    Ok(())
+}
+
+/// The patches that own an index of the span, by ascending number.
+pub fn touching(alloc: Global, level: &Level, c: Centring, s: Span) -> Result<Vec<u32>, NoMemory>
+    requires { KeepsGridLimits level.now }
+    ensures { IfOk result (λ found. found.items ≡ touching_patches c level.now s) }
+{
+    let mut found = Vec::new(alloc);
+    for patch in 0..patch_count(level) {
+        put_if(do_meet(owned(level, patch, c), s), patch, &mut found)?;
+    }
+    Ok(found)
+}
