@@ -1,0 +1,4 @@
+pub mod Counting
+pub mod Filling
+pub mod Beside
+pub mod Single
