@@ -69,10 +69,11 @@ count_of_some p (s ∷ ss) xs apart =
     by_place : (x : _) → p s x ≡ true → Any (λ t. p t x ≡ true) ss → ⊥
     by_place x here there = apart 0 (suc there.0) there.1 (omega arith) (omega (arith, there.2)) x here (subst (λ t. p t x ≡ true) (sym there.3) there.4)
 
--- a test passes as often as there are values exactly where each passes
+-- one more value, by what the test says of it
 more_by_test : {X : Type 0} (p : X → Bool) (x : X) (xs : List X) (b : Bool) → p x ≡ b → count_by p (x ∷ xs) ≡ cond b 1 0 + count_by p xs
 more_by_test p x xs b is = sum_by-cons (λ y. cond (p y) 1 0) x xs ∙ ap (λ (t : Bool). cond t 1 0 + count_by p xs) is
 
+-- a test passes as often as there are values exactly where each passes
 pub all_from_count : {X : Type 0} (p : X → Bool) (xs : List X) → count_by p xs ≡ length xs → All (λ x. p x ≡ true) xs
 all_from_count p [] full = All-nil (λ x. p x ≡ true)
 all_from_count {X} p (x ∷ xs) full = by_test (p x) refl (all_from_count p xs)

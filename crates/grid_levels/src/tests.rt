@@ -91,7 +91,7 @@ fn two_patches_tile_a_box(rt: HostRuntime) -> Result<(), Fail> {
 #[test]
 fn patches_share_no_cell(rt: HostRuntime) -> Result<(), Fail> {
     let alloc = rt.alloc();
-    // The cells 0, 1, 2 and 1, 2, 3: as many as the box has, two of them twice.
+    // Three cells and three, as many as the box has, two of them twice.
     let row = cells([0, 0, 0], [6, 1, 1]);
     let twice = [cells([0, 0, 0], [3, 1, 1]), cells([1, 0, 0], [4, 1, 1])];
     assert_eq!(rt; said(alloc, row, &twice)?, Some(6));
