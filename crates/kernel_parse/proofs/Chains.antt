@@ -5,7 +5,9 @@ use Rattle.kernel_ast.specs.declared.expression.Op.{Op}
 use Rattle.kernel_ast.specs.declared.expression.Expr.{Expr}
 use Rattle.kernel_ast.specs.declared.expression.Expr.TheVariants as expr
 use Rattle.kernel_parse.specs.declared.fault.ExprFault.{ExprFault}
-use Rattle.kernel_parse.specs.declared.fault.ExprFault.TheVariants as faults
+use Rattle.kernel_parse.specs.declared.fault.ExprFault.TheVariants.{NoMemory}
+use Rattle.kernel_parse.specs.declared.lexeme.Chain.{Chain}
+use Rattle.kernel_parse.specs.declared.lexeme.Chain.TheVariants.{Sum, Product}
 use Rattle.kernel_parse.specs.Grammar.{Words}
 use Rattle.kernel_parse.specs.Reading.{Fails, first_as, Parsed, parsed, Reader, limited, more_at, whole_at, expression_at}
 
@@ -28,23 +30,23 @@ module _ (meaning : Lexeme → Option Op) (operand : Reader) (depth i : ℕ) (le
 
   -- an operator, and no operand behind it
   pub fails_at_operand : (e : ExprFault) (op : Op) (behind : List Lexeme) → i < depth → first_as meaning left.rest ≡ Some (op, behind)
-      → Fails e (operand (depth - 1) left.names behind) → more_at meaning operand depth (depth - i) left ≡ total → Fails e total
+      → Fails NoMemory e (operand (depth - 1) left.names behind) → more_at meaning operand depth (depth - i) left ≡ total → Fails NoMemory e total
   unfolding more_at
-  fails_at_operand faults.NoMemory op behind lt some fails so_far = tt
-  fails_at_operand faults.BadExpr op behind lt some fails so_far =
+  fails_at_operand e op behind lt some fails so_far = λ not.
+      let none = fails not in
       let k : depth - i ≡ suc (depth - (i + 1)) = omega arith in
-      let one : more_at meaning operand depth (depth - i) left ≡ None = rw (k, some, fails) refl in
+      let one : more_at meaning operand depth (depth - i) left ≡ None = rw (k, some, none) refl in
       sym so_far ∙ one
 
   -- the operation is beyond the limits
   pub fails_at_limits : (e : ExprFault) (op : Op) (behind : List Lexeme) (right : Parsed) → i < depth → first_as meaning left.rest ≡ Some (op, behind)
-      → operand (depth - 1) left.names behind ≡ Some right → Fails e (limited depth (expr.Binary op left.expr right.expr))
-      → more_at meaning operand depth (depth - i) left ≡ total → Fails e total
+      → operand (depth - 1) left.names behind ≡ Some right → Fails NoMemory e (limited depth (expr.Binary op left.expr right.expr))
+      → more_at meaning operand depth (depth - i) left ≡ total → Fails NoMemory e total
   unfolding more_at
-  fails_at_limits faults.NoMemory op behind right lt some read fails so_far = tt
-  fails_at_limits faults.BadExpr op behind right lt some read fails so_far =
+  fails_at_limits e op behind right lt some read fails so_far = λ not.
+      let none = fails not in
       let k : depth - i ≡ suc (depth - (i + 1)) = omega arith in
-      let one : more_at meaning operand depth (depth - i) left ≡ None = rw (k, some, read, fails) refl in
+      let one : more_at meaning operand depth (depth - i) left ≡ None = rw (k, some, read, none) refl in
       sym so_far ∙ one
 
   -- one operand more
@@ -64,3 +66,8 @@ pub expression_at_inner : (levels inner : ℕ) → 1 ≤ levels → inner ≡ le
     → expression_at levels depth names ts ≡ whole_at (expression_at inner) depth names ts
 unfolding expression_at
 expression_at_inner levels inner some is depth names ts = let k : levels ≡ suc inner = omega arith in rw k refl
+
+-- a sum stands above its products
+abbrev pub rank : Chain → ℕ
+rank Sum = 1
+rank Product = 0

@@ -10,8 +10,7 @@ use Rattle.kernel_ast.specs.declared.expression.Store.{Store}
 use Rattle.kernel_ast.specs.declared.expression.Op.{Op}
 use Rattle.kernel_ast.specs.declared.expression.Expr.{Expr}
 use Rattle.kernel_ast.specs.declared.expression.Expr.TheVariants as expr
-use Rattle.kernel_parse.specs.declared.lexeme.Operators.TheVariants.{Comparison, Term, Factor}
-use Rattle.kernel_parse.specs.Signs.{word, number, sign, is_sign, op_of, comparison_of, call_words, call_of, place_words, place_of, store_words, store_of}
+use Rattle.kernel_parse.specs.Signs.{word, number, sign, is_sign, comparison_of, term_op_of, factor_op_of, call_words, call_of, place_words, place_of, store_words, store_of}
 use Rattle.kernel_parse.specs.Grammar.{Words, SpellsRead, own, coarse, fine, reduction, Form, whole, sum, product, unary, primary, Spells, one_sum, compared, one_product, added, one_unary, multiplied, one_primary, negated, literal, place, read, grouped, called, selected, SpellsExpression}
 use Rattle.kernel_parse.specs.Reading.{behind_sign, first_as, Parsed, parsed, read_at, limited, Reader, unary_at, call_at, select_at, leaf_at, primary_at, product_at, sum_at, whole_at, expression_at, all_of}
 use Rattle.kernel_parse.specs.Numbers.{is_number-decimal, digits_value-decimal}
@@ -113,7 +112,7 @@ module _ (inner : Reader) where
   select_again depth ts us vs rest names one two after c a b first second third fit = rw (first, second, third, fit) refl
 
   one_sum_again : (depth : ℕ) (names after : Words) (w rest : List Lexeme) (a : Expr) → sum_at inner depth names w ≡ Some (parsed a after rest)
-      → first_as (op_of Comparison) rest ≡ None → whole_at inner depth names w ≡ Some (parsed a after rest)
+      → first_as comparison_of rest ≡ None → whole_at inner depth names w ≡ Some (parsed a after rest)
   one_sum_again depth names after w rest a got none = rw (got, none) refl
 
   compared_again : (depth : ℕ) (names between after : Words) (w behind_at rest : List Lexeme) (a b : Expr) (at : Lexeme) (op : Op)
@@ -131,8 +130,8 @@ inner_is room depth names w = refl
 
 abbrev IsGot : Form → ℕ → ℕ → List Lexeme → Words → Expr → Words → Type 0
 IsGot whole room depth ts names e after = Gets (whole_at (expression_at room)) AfterWhole depth ts names e after
-IsGot sum room depth ts names e after = GetsChain (op_of Term) (product_at (expression_at room)) AfterProduct depth ts names e after
-IsGot product room depth ts names e after = GetsChain (op_of Factor) (unary_at (primary_at (expression_at room))) AfterUnary depth ts names e after
+IsGot sum room depth ts names e after = GetsChain term_op_of (product_at (expression_at room)) AfterProduct depth ts names e after
+IsGot product room depth ts names e after = GetsChain factor_op_of (unary_at (primary_at (expression_at room))) AfterUnary depth ts names e after
 IsGot unary room depth ts names e after = Gets (unary_at (primary_at (expression_at room))) AfterUnary depth ts names e after
 IsGot primary room depth ts names e after = Gets (primary_at (expression_at room)) AfterUnary depth ts names e after
 
@@ -141,12 +140,12 @@ module _ (room : ℕ) where
   sum_got : (depth : ℕ) (ts : List Lexeme) (names : Words) (e : Expr) (after : Words) → IsGot sum room depth ts names e after → depth_of e ≤ depth
       → Gets (sum_at (expression_at room)) AfterSum depth ts names e after
   sum_got depth ts names e after g shallow rest ends =
-      chain_ends (op_of Term) (product_at (expression_at room)) AfterProduct depth ts names e after g shallow rest ends.product_ends ends.no_term
+      chain_ends term_op_of (product_at (expression_at room)) AfterProduct depth ts names e after g shallow rest ends.product_ends ends.no_term
 
   product_got : (depth : ℕ) (ts : List Lexeme) (names : Words) (e : Expr) (after : Words) → IsGot product room depth ts names e after → depth_of e ≤ depth
       → Gets (product_at (expression_at room)) AfterProduct depth ts names e after
   product_got depth ts names e after g shallow rest ends =
-      chain_ends (op_of Factor) (unary_at (primary_at (expression_at room))) AfterUnary depth ts names e after g shallow rest ends.unary_ends ends.no_factor
+      chain_ends factor_op_of (unary_at (primary_at (expression_at room))) AfterUnary depth ts names e after g shallow rest ends.unary_ends ends.no_factor
 
   -- an expression in parentheses
   inside_got : (depth : ℕ) (ts : List Lexeme) (names : Words) (e : Expr) (after : Words) → IsGot whole room depth ts names e after
@@ -169,22 +168,22 @@ complete (compared room ts us names between after a b at op s is t) depth shallo
     ap (λ (w : List Lexeme). whole_at (expression_at room) depth names w) tokens
     ∙ compared_again (expression_at room) depth names between after (ts ++ (at ∷ behind_at)) behind_at rest a b at op first is second (fits depth (expr.Binary op a b) shallow few)
 complete (one_product room ts names after a s) depth shallow few =
-    chain_one (op_of Term) (product_at (expression_at room)) AfterProduct depth ts names a after (product_got room depth ts names a after (complete s depth shallow few) shallow)
+    chain_one term_op_of (product_at (expression_at room)) AfterProduct depth ts names a after (product_got room depth ts names a after (complete s depth shallow few) shallow)
 complete (added room ts us names between after a b at op s is t) depth shallow few =
     let size = depth_of-Binary op a b in
     let count = node_count-Binary op a b in
     let g = complete s depth (omega arith) (omega arith) in
     let h = complete t (depth - 1) (omega arith) (omega arith) in
-    chain_more (op_of Term) (product_at (expression_at room)) AfterProduct depth ts us names between after a b at op (ends_at_term at op is) is g
+    chain_more term_op_of (product_at (expression_at room)) AfterProduct depth ts us names between after a b at op (ends_at_term at op is) is g
     (product_got room (depth - 1) us between b after h (omega arith)) shallow few
 complete (one_unary room ts names after a s) depth shallow few =
-    chain_one (op_of Factor) (unary_at (primary_at (expression_at room))) AfterUnary depth ts names a after (complete s depth shallow few)
+    chain_one factor_op_of (unary_at (primary_at (expression_at room))) AfterUnary depth ts names a after (complete s depth shallow few)
 complete (multiplied room ts us names between after a b at op s is t) depth shallow few =
     let size = depth_of-Binary op a b in
     let count = node_count-Binary op a b in
     let g = complete s depth (omega arith) (omega arith) in
     let h = complete t (depth - 1) (omega arith) (omega arith) in
-    chain_more (op_of Factor) (unary_at (primary_at (expression_at room))) AfterUnary depth ts us names between after a b at op (ends_at_factor at op is) is g h shallow few
+    chain_more factor_op_of (unary_at (primary_at (expression_at room))) AfterUnary depth ts us names between after a b at op (ends_at_factor at op is) is g h shallow few
 complete (one_primary room ts names after a s) depth shallow few = λ rest ends.
     at_unary (primary_at (expression_at room)) depth names (ts ++ rest) (omega (arith, depth_of_positive a)) (no_minus s rest) ∙ complete s depth shallow few rest ends
 complete (negated room ts names after a s) depth shallow few = λ rest ends.

@@ -8,8 +8,7 @@ use Rattle.kernel_ast.specs.Size.{depth_of, node_count, depth_of_positive, depth
 use Rattle.kernel_ast.specs.declared.expression.Op.{Op}
 use Rattle.kernel_ast.specs.declared.expression.Expr.{Expr}
 use Rattle.kernel_ast.specs.declared.expression.Expr.TheVariants as expr
-use Rattle.kernel_parse.specs.declared.lexeme.Operators.TheVariants.{Comparison, Term, Factor}
-use Rattle.kernel_parse.specs.Signs.{sign, op_of, comparison_signs, comparison_of, term_signs, term_op_of, factor_signs, factor_op_of}
+use Rattle.kernel_parse.specs.Signs.{sign, comparison_signs, comparison_of, term_signs, term_op_of, factor_signs, factor_op_of}
 use Rattle.kernel_parse.specs.Tables.{meaning_case}
 use Rattle.kernel_parse.specs.Grammar.{Words}
 use Rattle.kernel_parse.specs.Reading.{behind_sign, first_as, parsed, limited, Reader, more_at, chain_at}
@@ -21,15 +20,15 @@ AfterUnary rest = behind_sign (codes "[") rest ≡ None
 
 pub record AfterProduct (rest : List Lexeme) : Type 0 where
   pub unary_ends : AfterUnary rest
-  pub no_factor : first_as (op_of Factor) rest ≡ None
+  pub no_factor : first_as factor_op_of rest ≡ None
 
 pub record AfterSum (rest : List Lexeme) : Type 0 where
   pub product_ends : AfterProduct rest
-  pub no_term : first_as (op_of Term) rest ≡ None
+  pub no_term : first_as term_op_of rest ≡ None
 
 pub record AfterWhole (rest : List Lexeme) : Type 0 where
   pub sum_ends : AfterSum rest
-  pub no_comparison : first_as (op_of Comparison) rest ≡ None
+  pub no_comparison : first_as comparison_of rest ≡ None
 
 -- signs that end an expression
 pub ends_at_end : AfterWhole []
@@ -42,13 +41,22 @@ pub ends_at_comma : (rest : List Lexeme) → AfterWhole (sign (codes ",") ∷ re
 ends_at_comma rest = record { sum_ends = record { product_ends = record { unary_ends = refl; no_factor = refl }; no_term = refl }; no_comparison = refl }
 
 pub ends_at_comparison : (at : Lexeme) (op : Op) → comparison_of at ≡ Some op → (rest : List Lexeme) → AfterSum (at ∷ rest)
-ends_at_comparison at op is rest = meaning_case Sign (λ (t : Lexeme) (o : Op). AfterSum (t ∷ rest)) comparison_signs at op is
-    (record { product_ends = record { unary_ends = refl; no_factor = refl }; no_term = refl },
-    (record { product_ends = record { unary_ends = refl; no_factor = refl }; no_term = refl },
-    (record { product_ends = record { unary_ends = refl; no_factor = refl }; no_term = refl },
-    (record { product_ends = record { unary_ends = refl; no_factor = refl }; no_term = refl },
-    (record { product_ends = record { unary_ends = refl; no_factor = refl }; no_term = refl },
-    (record { product_ends = record { unary_ends = refl; no_factor = refl }; no_term = refl }, tt))))))
+ends_at_comparison at op is rest = meaning_case Sign (λ (t : Lexeme) (o : Op). AfterSum (t ∷ rest)) comparison_signs at op is (
+  record { product_ends = record { unary_ends = refl; no_factor = refl }; no_term = refl },
+  (
+    record { product_ends = record { unary_ends = refl; no_factor = refl }; no_term = refl },
+    (
+      record { product_ends = record { unary_ends = refl; no_factor = refl }; no_term = refl },
+      (
+        record { product_ends = record { unary_ends = refl; no_factor = refl }; no_term = refl },
+        (
+          record { product_ends = record { unary_ends = refl; no_factor = refl }; no_term = refl },
+          (record { product_ends = record { unary_ends = refl; no_factor = refl }; no_term = refl }, tt),
+        ),
+      ),
+    ),
+  ),
+)
 
 pub ends_at_term : (at : Lexeme) (op : Op) → term_op_of at ≡ Some op → (rest : List Lexeme) → AfterProduct (at ∷ rest)
 ends_at_term at op is rest = meaning_case Sign (λ (t : Lexeme) (o : Op). AfterProduct (t ∷ rest)) term_signs at op is

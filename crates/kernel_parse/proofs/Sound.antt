@@ -10,8 +10,7 @@ use Rattle.kernel_ast.specs.Size.{depth_of, node_count, depth_of-Literal, depth_
 use Rattle.kernel_ast.specs.declared.expression.Op.{Op}
 use Rattle.kernel_ast.specs.declared.expression.Expr.{Expr}
 use Rattle.kernel_ast.specs.declared.expression.Expr.TheVariants as expr
-use Rattle.kernel_parse.specs.declared.lexeme.Operators.TheVariants.{Comparison, Term, Factor, Call}
-use Rattle.kernel_parse.specs.Signs.{word, sign, is_word, op_of, call_of, place_words, place_of}
+use Rattle.kernel_parse.specs.Signs.{word, sign, is_word, comparison_of, term_op_of, factor_op_of, call_of, place_words, place_of}
 use Rattle.kernel_parse.specs.Grammar.{Words, SpellsRead, own, coarse, fine, reduction, Form, whole, sum, product, unary, primary, Spells, one_sum, compared, one_product, added, one_unary, multiplied, one_primary, negated, literal, place, read, grouped, called, selected, SpellsExpression}
 use Rattle.kernel_parse.specs.Reading.{◌>>=◌, behind, behind_sign, number_of_token, first_as, Parsed, parsed, read_at, IsLeaf, limited, Reader, sized, joined, more_at, chain_at, negation_of, unary_at, behind_sign_at, closed, group_at, call_at, select_at, literal_of, atom_of, leaf_at, primary_at, product_at, sum_at, comparison_at, whole_at, expression_at, if_empty, all_of}
 use Rattle.kernel_parse.specs.Tables.{meaning_case}
@@ -116,9 +115,16 @@ read_is_leaf (fine names at kind store how name is_store is_fine free) = record 
 read_is_leaf (reduction names at store name is_store free) = record { deep = depth_of-Number _ _; wide = node_count-Number _ _ }
 
 place_is_leaf : (t : Lexeme) (e : Expr) → place_of t ≡ Some e → IsLeaf e
-place_is_leaf t e is = meaning_case Word (λ (t : Lexeme) (e : Expr). IsLeaf e) place_words t e is
-    (record { deep = depth_of-X; wide = node_count-X }, (record { deep = depth_of-Y; wide = node_count-Y }, (record { deep = depth_of-Z; wide = node_count-Z },
-    (record { deep = depth_of-Level; wide = node_count-Level }, (record { deep = depth_of-Material; wide = node_count-Material }, (record { deep = depth_of-Step; wide = node_count-Step }, tt))))))
+place_is_leaf t e is = meaning_case Word (λ (t : Lexeme) (e : Expr). IsLeaf e) place_words t e is (
+  record { deep = depth_of-X; wide = node_count-X },
+  (
+    record { deep = depth_of-Y; wide = node_count-Y },
+    (
+      record { deep = depth_of-Z; wide = node_count-Z },
+      (record { deep = depth_of-Level; wide = node_count-Level }, (record { deep = depth_of-Material; wide = node_count-Material }, (record { deep = depth_of-Step; wide = node_count-Step }, tt))),
+    ),
+  ),
+)
 
 leaf_limits : (depth : ℕ) (e : Expr) → 1 ≤ depth → IsLeaf e → IsLimited depth e
 leaf_limits depth e some leaf = record { shallow = omega (arith, leaf.deep); few = omega (arith, leaf.wide) }
@@ -262,15 +268,15 @@ module _ (room : ℕ) (inner : Reader) (sound : (depth : ℕ) (names : Words) (t
   primary_some zero names ts p e = absurd cc
   primary_some (suc depth) names ts p e =
       elim (branch_some (λ rest. group_at inner (suc depth) names rest) (behind_sign (codes "(") ts)
-      (option_map_or (λ op. call_at inner op.0 (suc depth) names op.1) (first_as (op_of Call) ts)
+      (option_map_or (λ op. call_at inner op.0 (suc depth) names op.1) (first_as call_of ts)
       (option_map_or (λ rest. select_at inner (suc depth) names rest) (behind (is_word (codes "select")) ts)
       (leaf_at names ts))) p e) [
         | inl b ↦ subst (λ (w : List Lexeme). Takes primary room (suc depth) names w p) (sym (behind_sign_some (codes "(") ts b.0 b.1)) (group_some (suc depth) names b.0 p b.2)
         | inr b ↦
-            elim (branch_some (λ op. call_at inner op.0 (suc depth) names op.1) (first_as (op_of Call) ts)
+            elim (branch_some (λ op. call_at inner op.0 (suc depth) names op.1) (first_as call_of ts)
             (option_map_or (λ rest. select_at inner (suc depth) names rest) (behind (is_word (codes "select")) ts) (leaf_at names ts)) p b.1) [
               | inl d ↦
-                  let t = first_as_some (op_of Call) ts d.0.0 d.0.1 d.1 in
+                  let t = first_as_some call_of ts d.0.0 d.0.1 d.1 in
                   subst (λ (w : List Lexeme). Takes primary room (suc depth) names w p) (sym t.1) (call_some t.0 d.0.0 t.2 (suc depth) names d.0.1 p d.2)
               | inr d ↦
                   elim (branch_some (λ rest. select_at inner (suc depth) names rest) (behind (is_word (codes "select")) ts) (leaf_at names ts) p d.1) [
@@ -281,22 +287,22 @@ module _ (room : ℕ) (inner : Reader) (sound : (depth : ℕ) (names : Words) (t
       ]
 
   product_some : IsSound product room (product_at inner)
-  product_some = chain_some product unary room (op_of Factor) (unary_at (primary_at inner)) (multiplied room) (unary_some room (primary_at inner) primary_some) (one_unary room)
+  product_some = chain_some product unary room factor_op_of (unary_at (primary_at inner)) (multiplied room) (unary_some room (primary_at inner) primary_some) (one_unary room)
 
   sum_some : IsSound sum room (sum_at inner)
-  sum_some = chain_some sum product room (op_of Term) (product_at inner) (added room) product_some (one_product room)
+  sum_some = chain_some sum product room term_op_of (product_at inner) (added room) product_some (one_product room)
 
   whole_some : IsSound whole room (whole_at inner)
   whole_some depth names ts p e =
       let q = bind_some (sum_at inner depth names ts) (λ left. comparison_at inner depth left) p e in
       let left = q.0 in
       let s = sum_some depth names ts left q.1 in
-      elim (branch_some (λ op. sum_at inner (depth - 1) left.names op.1 >>= (λ right. joined depth op.0 left right)) (first_as (op_of Comparison) left.rest) (Some left) p q.2) [
+      elim (branch_some (λ op. sum_at inner (depth - 1) left.names op.1 >>= (λ right. joined depth op.0 left right)) (first_as comparison_of left.rest) (Some left) p q.2) [
         | inl b ↦
             let op = b.0 in
             let r = bind_some (sum_at inner (depth - 1) left.names op.1) (λ right. joined depth op.0 left right) p b.2 in
             let right = r.0 in
-            let t = first_as_some (op_of Comparison) left.rest op.0 op.1 b.1 in
+            let t = first_as_some comparison_of left.rest op.0 op.1 b.1 in
             let o = sum_some (depth - 1) left.names op.1 right r.1 in
             let size = sized_some depth (expr.Binary op.0 left.expr right.expr) right.names right.rest p r.2 in
             subst (Takes whole room depth names ts) size.0 (record {

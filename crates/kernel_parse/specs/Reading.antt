@@ -1,5 +1,5 @@
 -- Reading an expression from the left, token by token.
-use Rattle.std.specs.Prelude.{◌≡◌, ℕ, zero, suc, ◌-◌, ◌^◌, ℤ, pos, neg_ℤ, Bool, true, false, ◌&&◌, List, [], ◌∷◌, Option, Some, None, Result, Ok, Err, nat_lt, nat_le, codes, if◌then◌else◌}
+use Rattle.std.specs.Prelude.{◌≡◌, ◌≢◌, ℕ, zero, suc, ◌-◌, ◌^◌, ℤ, pos, neg_ℤ, Bool, true, false, ◌&&◌, List, [], ◌∷◌, Option, Some, None, Result, Ok, Err, nat_lt, nat_le, codes, if◌then◌else◌}
 use Rattle.std.specs.Option.{option_map, option_map_or}
 use Rattle.std.specs.Str.Parse.{digits_value}
 use Rattle.uts_lex.specs.Lexemes.{Lexeme, is_number}
@@ -11,10 +11,9 @@ use Rattle.kernel_ast.specs.declared.expression.How.TheVariants.{Same, Coarse}
 use Rattle.kernel_ast.specs.declared.expression.Op.{Op}
 use Rattle.kernel_ast.specs.declared.expression.Expr.{Expr}
 use Rattle.kernel_ast.specs.declared.expression.Expr.TheVariants as expr
-use Rattle.kernel_parse.specs.declared.fault.ExprFault.{ExprFault}
-use Rattle.kernel_parse.specs.declared.fault.ExprFault.TheVariants as faults
-use Rattle.kernel_parse.specs.declared.lexeme.Operators.TheVariants.{Comparison, Term, Factor, Call}
-use Rattle.kernel_parse.specs.Signs.{is_number_kind, is_word_kind, is_word, is_sign, op_of, place_of, store_of, fine_of, is_reserved}
+use Rattle.kernel_parse.specs.declared.lexeme.Chain.{Chain}
+use Rattle.kernel_parse.specs.declared.lexeme.Chain.TheVariants.{Sum, Product}
+use Rattle.kernel_parse.specs.Signs.{is_number_kind, is_word_kind, is_word, is_sign, comparison_of, term_op_of, factor_op_of, call_of, op_of, place_of, store_of, fine_of, is_reserved}
 use Rattle.kernel_parse.specs.Grammar.{Words, read_of}
 
 infixl 10 ◌>>=◌
@@ -22,14 +21,14 @@ abbrev pub ◌>>=◌ : {A B : Type 0} → Option A → (A → Option B) → Opti
 None >>= f = None
 (Some x) >>= f = f x
 
--- What a function returned, seen by view, is what reading gives, unless memory ran out.
-abbrev pub Fails : {Y : Type 0} → ExprFault → Option Y → Type 0
-Fails faults.NoMemory read = Unit {0}
-Fails faults.BadExpr read = read ≡ None
+-- A fault is want of memory, or there is nothing that reading gives.
+abbrev pub Fails : {E Y : Type 0} → E → E → Option Y → Type 0
+Fails memory fault read = fault ≢ memory → read ≡ None
 
-abbrev pub Gives : {X Y : Type 0} → (X → Y) → Result X ExprFault → Option Y → Type 0
-Gives view (Ok x) read = read ≡ Some (view x)
-Gives view (Err e) read = Fails e read
+-- What a function returned, seen by view, is what reading gives, unless memory ran out.
+abbrev pub Gives : {E X Y : Type 0} → E → (X → Y) → Result X E → Option Y → Type 0
+Gives memory view (Ok x) read = read ≡ Some (view x)
+Gives memory view (Err fault) read = Fails memory fault read
 
 -- ---- tokens
 
@@ -204,21 +203,30 @@ unfoldable pub primary_at : Reader → Reader
 primary_at inner zero names ts = None
 primary_at inner (suc depth) names ts =
     option_map_or (λ rest. group_at inner (suc depth) names rest) (behind_sign (codes "(") ts)
-    (option_map_or (λ op. call_at inner op.0 (suc depth) names op.1) (first_as (op_of Call) ts)
+    (option_map_or (λ op. call_at inner op.0 (suc depth) names op.1) (first_as call_of ts)
     (option_map_or (λ rest. select_at inner (suc depth) names rest) (behind (is_word (codes "select")) ts)
     (leaf_at names ts)))
 
 abbrev pub product_at : Reader → Reader
-product_at inner = chain_at (op_of Factor) (unary_at (primary_at inner))
+product_at inner = chain_at factor_op_of (unary_at (primary_at inner))
 
 abbrev pub sum_at : Reader → Reader
-sum_at inner = chain_at (op_of Term) (product_at inner)
+sum_at inner = chain_at term_op_of (product_at inner)
+
+-- the operands of a chain
+abbrev pub operand_at : Chain → Reader → Reader
+operand_at Sum inner = product_at inner
+operand_at Product inner = unary_at (primary_at inner)
+
+-- a sum or a product
+abbrev pub chain_of : Chain → Reader → Reader
+chain_of chain inner = chain_at (op_of chain) (operand_at chain inner)
 
 -- one comparison at most
 abbrev pub comparison_at : Reader → ℕ → Parsed → Option Parsed
 comparison_at inner depth left =
     option_map_or (λ op. sum_at inner (depth - 1) left.names op.1 >>= (λ right. joined depth op.0 left right))
-    (first_as (op_of Comparison) left.rest) (Some left)
+    (first_as comparison_of left.rest) (Some left)
 
 abbrev pub whole_at : Reader → Reader
 whole_at inner depth names ts = sum_at inner depth names ts >>= λ left. comparison_at inner depth left

@@ -14,8 +14,8 @@ use Rattle.kernel_ast.specs.declared.expression.Op.{Op}
 use Rattle.kernel_ast.specs.declared.expression.Op.TheVariants as op
 use Rattle.kernel_ast.specs.declared.expression.Expr.{Expr}
 use Rattle.kernel_ast.specs.declared.expression.Expr.TheVariants as expr
-use Rattle.kernel_parse.specs.declared.lexeme.Operators.{Operators}
-use Rattle.kernel_parse.specs.declared.lexeme.Operators.TheVariants as operators
+use Rattle.kernel_parse.specs.declared.lexeme.Chain.{Chain}
+use Rattle.kernel_parse.specs.declared.lexeme.Chain.TheVariants.{Sum, Product}
 
 abbrev pub word : List ℕ → Lexeme
 word bytes = lexeme Word bytes
@@ -103,12 +103,10 @@ call_words = (codes "min", op.Min) ∷ (codes "max", op.Max) ∷ []
 abbrev pub call_of : Lexeme → Option Op
 call_of token = meaning_in call_words token
 
--- the operators of a kind
-abbrev pub op_of : Operators → Lexeme → Option Op
-op_of operators.Comparison token = comparison_of token
-op_of operators.Term token = term_op_of token
-op_of operators.Factor token = factor_op_of token
-op_of operators.Call token = call_of token
+-- the operators between the operands of a chain
+abbrev pub op_of : Chain → Lexeme → Option Op
+op_of Sum = term_op_of
+op_of Product = factor_op_of
 
 abbrev pub place_words : List (List ℕ × Expr)
 place_words =

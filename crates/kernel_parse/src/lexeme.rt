@@ -2,7 +2,7 @@
 ghost use Rattle.std.specs.Prelude.{◌≡◌, IfSome, map};
 ghost use Rattle.std.specs.Option.{option_map};
 ghost use Rattle.uts_lex.specs.Tokens.{lexeme_at};
-ghost use Rattle.kernel_parse.specs.Signs.{is_lexeme, meaning_of, entry_of, op_of, place_of, is_reserved};
+ghost use Rattle.kernel_parse.specs.Signs.{is_lexeme, meaning_of, entry_of, place_of, is_reserved};
 ghost use Rattle.kernel_parse.specs.Reading.{number_of_token, name_of_token, atom_of, IsLeaf};
 ghost use Rattle.kernel_parse.specs.Source.{LiesIn};
 
@@ -10,17 +10,16 @@ use kernel_ast::{Expr, How, Op, Store};
 use uts_lex::{Kind, Token};
 use uts_num::read_u64;
 
-/// The kinds of binary operators.
+/// Operands with operators between them, grouped from the left.
 #[derive(Clone, Copy, Debug, PartialEq, Eq)]
-pub(crate) enum Operators {
-    Comparison,
-    Term,
-    Factor,
-    /// `min` and `max`, which stand before their two arguments.
-    Call,
+pub(crate) enum Chain {
+    /// Products with `+` and `-` between them.
+    Sum,
+    /// Operands with `*`, `/` and `%` between them.
+    Product,
 }
 
-const COMPARISONS: [(&[u8], Op); 6] = [
+pub(crate) const COMPARISONS: [(&[u8], Op); 6] = [
     (b"<", Op::Lt),
     (b"<=", Op::Le),
     (b">", Op::Gt),
@@ -29,11 +28,15 @@ const COMPARISONS: [(&[u8], Op); 6] = [
     (b"!=", Op::Ne),
 ];
 
-const TERM_OPERATORS: [(&[u8], Op); 2] = [(b"+", Op::Add), (b"-", Op::Sub)];
+pub(crate) const TERM_OPERATORS: [(&[u8], Op); 2] = [(b"+", Op::Add), (b"-", Op::Sub)];
 
-const FACTOR_OPERATORS: [(&[u8], Op); 3] = [(b"*", Op::Mul), (b"/", Op::Div), (b"%", Op::Rem)];
+pub(crate) const FACTOR_OPERATORS: [(&[u8], Op); 3] = [
+    (b"*", Op::Mul),
+    (b"/", Op::Div),
+    (b"%", Op::Rem),
+];
 
-const CALLS: [(&[u8], Op); 2] = [(b"min", Op::Min), (b"max", Op::Max)];
+pub(crate) const CALLS: [(&[u8], Op); 2] = [(b"min", Op::Min), (b"max", Op::Max)];
 
 pub(crate) const STORES: [(&[u8], Store); 2] = [(b"old", Store::Old), (b"new", Store::New)];
 
@@ -68,19 +71,6 @@ pub(crate) fn meaning_of<T: Copy>(
         }
     }
     None
-}
-
-/// The operator of this kind that the token stands for.
-pub(crate) fn operator_of(text: &[u8], token: &Token, kind: Operators) -> Option<Op>
-    requires { LiesIn text.now token.now }
-    ensures { result ≡ op_of kind (lexeme_at text.now token.now) }
-{
-    match kind {
-        Operators::Comparison => meaning_of(text, token, Kind::Sign, &COMPARISONS),
-        Operators::Term => meaning_of(text, token, Kind::Sign, &TERM_OPERATORS),
-        Operators::Factor => meaning_of(text, token, Kind::Sign, &FACTOR_OPERATORS),
-        Operators::Call => meaning_of(text, token, Kind::Word, &CALLS),
-    }
 }
 
 #[tactic(auto, using(kernel_ast::specs::Size::depths_of_forms, kernel_ast::specs::Size::node_counts_of_forms))]

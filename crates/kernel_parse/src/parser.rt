@@ -1,13 +1,13 @@
 //! Expressions with operators, calls and parentheses.
 ghost use Rattle.std.specs.Prelude.{◌≡◌, [], ◌+◌, ◌<◌, ◌≤◌, ◌^◌, length, All, IfOk};
-ghost use Rattle.kernel_parse.specs.Signs.{op_of};
-ghost use Rattle.kernel_parse.specs.Reading.{Gives, parsed, whole_at, sum_at, product_at, unary_at, primary_at, call_at, select_at, expression_at, all_of};
+ghost use Rattle.kernel_parse.specs.declared.fault.ExprFault.TheVariants.{NoMemory};
+ghost use Rattle.kernel_parse.specs.Reading.{Gives, parsed, whole_at, chain_of, operand_at, unary_at, primary_at, behind_sign_at, call_at, select_at, expression_at, all_of};
 ghost use Rattle.kernel_parse.specs.Source.{CanRead, Extends, lexemes};
 
 use crate::fault::ExprFault;
-use crate::lexeme::Operators;
+use crate::lexeme::Chain;
 use crate::reads::read_leaf;
-use crate::tokens::{behind_sign, behind_word, split_operator};
+use crate::tokens::{behind_sign, behind_word, split_call, split_comparison, split_operator};
 use crate::tree::{MAX_DEPTH, Tree, binary, negation, selection};
 use kernel_ast::Op;
 use std::alloc::Global;
@@ -27,9 +27,8 @@ fn expression<'a>(
     depth: u32,
 ) -> Result<(Tree, &'a [Token]), ExprFault>
     requires readable { CanRead text.now names.old tokens.now }
-    requires levels_fit { levels ≤ 65 }
     requires depth_fits { depth ≤ 64 }
-    ensures read { Gives (λ r. parsed r.0.expr names.new (lexemes text.now r.1.now)) result (expression_at levels depth names.old (lexemes text.now tokens.now)) }
+    ensures read { Gives NoMemory (λ r. parsed r.0.expr names.new (lexemes text.now r.1.now)) result (expression_at levels depth names.old (lexemes text.now tokens.now)) }
     ensures rest { IfOk result (λ r. CanRead text.now names.new r.1.now) }
     ensures kept { Extends names.old names.new }
 {
@@ -51,78 +50,79 @@ fn comparison<'a>(
     depth: u32,
 ) -> Result<(Tree, &'a [Token]), ExprFault>
     requires readable { CanRead text.now names.old tokens.now }
-    requires levels_fit { levels ≤ 65 }
     requires depth_fits { depth ≤ 64 }
-    ensures read { Gives (λ r. parsed r.0.expr names.new (lexemes text.now r.1.now)) result (whole_at (expression_at levels) depth names.old (lexemes text.now tokens.now)) }
+    ensures read { Gives NoMemory (λ r. parsed r.0.expr names.new (lexemes text.now r.1.now)) result (whole_at (expression_at levels) depth names.old (lexemes text.now tokens.now)) }
     ensures rest { IfOk result (λ r. CanRead text.now names.new r.1.now) }
     ensures kept { Extends names.old names.new }
 {
-    let (left, rest) = sum(alloc, text, tokens, names, levels, depth)?;
-    let Some((op, behind)) = split_operator(text, rest, Operators::Comparison) else {
+    let (left, rest) = chain(alloc, text, tokens, names, Chain::Sum, levels, depth)?;
+    let Some((op, behind)) = split_comparison(text, rest) else {
         return Ok((left, rest));
     };
-    let (right, rest) = sum(alloc, text, behind, names, levels, depth.saturating_sub(1))?;
+    let (right, rest) = chain(
+        alloc,
+        text,
+        behind,
+        names,
+        Chain::Sum,
+        levels,
+        depth.saturating_sub(1),
+    )?;
     Ok((binary(alloc, op, left, right, depth)?, rest))
 }
 
-/// Terms with `+` and `-` between them. Each of them makes the sum one deeper.
+/// Operands with operators between them. Each operator makes the chain one deeper.
 #[cycle(parser)]
 #[tactic(auto, using(crate::specs::SourceLaws::kept_words))]
-fn sum<'a>(
+fn chain<'a>(
     alloc: Global,
     text: &[u8],
     tokens: &'a [Token],
     names: &mut Names,
+    kind: Chain,
     levels: u32,
     depth: u32,
 ) -> Result<(Tree, &'a [Token]), ExprFault>
     requires readable { CanRead text.now names.old tokens.now }
-    requires levels_fit { levels ≤ 65 }
     requires depth_fits { depth ≤ 64 }
-    ensures read { Gives (λ r. parsed r.0.expr names.new (lexemes text.now r.1.now)) result (sum_at (expression_at levels) depth names.old (lexemes text.now tokens.now)) }
+    ensures read { Gives NoMemory (λ r. parsed r.0.expr names.new (lexemes text.now r.1.now)) result (chain_of kind (expression_at levels) depth names.old (lexemes text.now tokens.now)) }
     ensures rest { IfOk result (λ r. CanRead text.now names.new r.1.now) }
     ensures kept { Extends names.old names.new }
 {
-    let (mut left, mut rest) = product(alloc, text, tokens, names, levels, depth)?;
+    let (mut left, mut rest) = operand(alloc, text, tokens, names, kind, levels, depth)?;
     for _ in 0..depth {
-        let Some((op, behind)) = split_operator(text, rest, Operators::Term) else {
+        let Some((op, behind)) = split_operator(text, rest, kind) else {
             return Ok((left, rest));
         };
-        let (right, after) = product(alloc, text, behind, names, levels, depth - 1)?;
+        let (right, after) = operand(alloc, text, behind, names, kind, levels, depth - 1)?;
         left = binary(alloc, op, left, right, depth)?;
         rest = after;
     }
     Err(ExprFault::BadExpr)
 }
 
-/// Factors with `*`, `/` and `%` between them. Each of them makes the product one deeper.
+/// A product in a sum, and an operand in a product.
 #[cycle(parser)]
 #[tactic(auto, using(crate::specs::SourceLaws::kept_words))]
-fn product<'a>(
+fn operand<'a>(
     alloc: Global,
     text: &[u8],
     tokens: &'a [Token],
     names: &mut Names,
+    kind: Chain,
     levels: u32,
     depth: u32,
 ) -> Result<(Tree, &'a [Token]), ExprFault>
     requires readable { CanRead text.now names.old tokens.now }
-    requires levels_fit { levels ≤ 65 }
     requires depth_fits { depth ≤ 64 }
-    ensures read { Gives (λ r. parsed r.0.expr names.new (lexemes text.now r.1.now)) result (product_at (expression_at levels) depth names.old (lexemes text.now tokens.now)) }
+    ensures read { Gives NoMemory (λ r. parsed r.0.expr names.new (lexemes text.now r.1.now)) result (operand_at kind (expression_at levels) depth names.old (lexemes text.now tokens.now)) }
     ensures rest { IfOk result (λ r. CanRead text.now names.new r.1.now) }
     ensures kept { Extends names.old names.new }
 {
-    let (mut left, mut rest) = unary(alloc, text, tokens, names, levels, depth)?;
-    for _ in 0..depth {
-        let Some((op, behind)) = split_operator(text, rest, Operators::Factor) else {
-            return Ok((left, rest));
-        };
-        let (right, after) = unary(alloc, text, behind, names, levels, depth - 1)?;
-        left = binary(alloc, op, left, right, depth)?;
-        rest = after;
+    match kind {
+        Chain::Sum => chain(alloc, text, tokens, names, Chain::Product, levels, depth),
+        Chain::Product => unary(alloc, text, tokens, names, levels, depth),
     }
-    Err(ExprFault::BadExpr)
 }
 
 /// An operand with any number of `-` before it.
@@ -137,9 +137,8 @@ fn unary<'a>(
     depth: u32,
 ) -> Result<(Tree, &'a [Token]), ExprFault>
     requires readable { CanRead text.now names.old tokens.now }
-    requires levels_fit { levels ≤ 65 }
     requires depth_fits { depth ≤ 64 }
-    ensures read { Gives (λ r. parsed r.0.expr names.new (lexemes text.now r.1.now)) result (unary_at (primary_at (expression_at levels)) depth names.old (lexemes text.now tokens.now)) }
+    ensures read { Gives NoMemory (λ r. parsed r.0.expr names.new (lexemes text.now r.1.now)) result (unary_at (primary_at (expression_at levels)) depth names.old (lexemes text.now tokens.now)) }
     ensures rest { IfOk result (λ r. CanRead text.now names.new r.1.now) }
     ensures kept { Extends names.old names.new }
 {
@@ -165,9 +164,8 @@ fn primary<'a>(
     depth: u32,
 ) -> Result<(Tree, &'a [Token]), ExprFault>
     requires readable { CanRead text.now names.old tokens.now }
-    requires levels_fit { levels ≤ 65 }
     requires depth_fits { depth ≤ 64 }
-    ensures read { Gives (λ r. parsed r.0.expr names.new (lexemes text.now r.1.now)) result (primary_at (expression_at levels) depth names.old (lexemes text.now tokens.now)) }
+    ensures read { Gives NoMemory (λ r. parsed r.0.expr names.new (lexemes text.now r.1.now)) result (primary_at (expression_at levels) depth names.old (lexemes text.now tokens.now)) }
     ensures rest { IfOk result (λ r. CanRead text.now names.new r.1.now) }
     ensures kept { Extends names.old names.new }
 {
@@ -179,13 +177,35 @@ fn primary<'a>(
         let rest = behind_sign(text, rest, b")").ok_or(ExprFault::BadExpr)?;
         return Ok((inner, rest));
     }
-    if let Some((op, rest)) = split_operator(text, tokens, Operators::Call) {
+    if let Some((op, rest)) = split_call(text, tokens) {
         return call(alloc, text, rest, names, op, levels, depth);
     }
     if let Some(rest) = behind_word(text, tokens, b"select") {
         return select(alloc, text, rest, names, levels, depth);
     }
     read_leaf(text, tokens, names)
+}
+
+/// The sign, and an expression behind it.
+#[cycle(parser)]
+#[tactic(auto, using(crate::specs::SourceLaws::kept_words))]
+fn argument<'a>(
+    alloc: Global,
+    text: &[u8],
+    tokens: &'a [Token],
+    names: &mut Names,
+    sign: &[u8],
+    levels: u32,
+    depth: u32,
+) -> Result<(Tree, &'a [Token]), ExprFault>
+    requires readable { CanRead text.now names.old tokens.now }
+    requires depth_fits { depth ≤ 64 }
+    ensures read { Gives NoMemory (λ r. parsed r.0.expr names.new (lexemes text.now r.1.now)) result (behind_sign_at sign.now (expression_at levels) depth names.old (lexemes text.now tokens.now)) }
+    ensures rest { IfOk result (λ r. CanRead text.now names.new r.1.now) }
+    ensures kept { Extends names.old names.new }
+{
+    let rest = behind_sign(text, tokens, sign).ok_or(ExprFault::BadExpr)?;
+    expression(alloc, text, rest, names, levels, depth)
 }
 
 /// The two arguments of `min` or `max`.
@@ -201,17 +221,14 @@ fn call<'a>(
     depth: u32,
 ) -> Result<(Tree, &'a [Token]), ExprFault>
     requires readable { CanRead text.now names.old tokens.now }
-    requires levels_fit { levels ≤ 65 }
     requires depth_fits { depth ≤ 64 }
-    ensures read { Gives (λ r. parsed r.0.expr names.new (lexemes text.now r.1.now)) result (call_at (expression_at levels) op depth names.old (lexemes text.now tokens.now)) }
+    ensures read { Gives NoMemory (λ r. parsed r.0.expr names.new (lexemes text.now r.1.now)) result (call_at (expression_at levels) op depth names.old (lexemes text.now tokens.now)) }
     ensures rest { IfOk result (λ r. CanRead text.now names.new r.1.now) }
     ensures kept { Extends names.old names.new }
 {
     let inside = depth.saturating_sub(1);
-    let rest = behind_sign(text, tokens, b"(").ok_or(ExprFault::BadExpr)?;
-    let (left, rest) = expression(alloc, text, rest, names, levels, inside)?;
-    let rest = behind_sign(text, rest, b",").ok_or(ExprFault::BadExpr)?;
-    let (right, rest) = expression(alloc, text, rest, names, levels, inside)?;
+    let (left, rest) = argument(alloc, text, tokens, names, b"(", levels, inside)?;
+    let (right, rest) = argument(alloc, text, rest, names, b",", levels, inside)?;
     let rest = behind_sign(text, rest, b")").ok_or(ExprFault::BadExpr)?;
     Ok((binary(alloc, op, left, right, depth)?, rest))
 }
@@ -228,19 +245,15 @@ fn select<'a>(
     depth: u32,
 ) -> Result<(Tree, &'a [Token]), ExprFault>
     requires readable { CanRead text.now names.old tokens.now }
-    requires levels_fit { levels ≤ 65 }
     requires depth_fits { depth ≤ 64 }
-    ensures read { Gives (λ r. parsed r.0.expr names.new (lexemes text.now r.1.now)) result (select_at (expression_at levels) depth names.old (lexemes text.now tokens.now)) }
+    ensures read { Gives NoMemory (λ r. parsed r.0.expr names.new (lexemes text.now r.1.now)) result (select_at (expression_at levels) depth names.old (lexemes text.now tokens.now)) }
     ensures rest { IfOk result (λ r. CanRead text.now names.new r.1.now) }
     ensures kept { Extends names.old names.new }
 {
     let inside = depth.saturating_sub(1);
-    let rest = behind_sign(text, tokens, b"(").ok_or(ExprFault::BadExpr)?;
-    let (condition, rest) = expression(alloc, text, rest, names, levels, inside)?;
-    let rest = behind_sign(text, rest, b",").ok_or(ExprFault::BadExpr)?;
-    let (then, rest) = expression(alloc, text, rest, names, levels, inside)?;
-    let rest = behind_sign(text, rest, b",").ok_or(ExprFault::BadExpr)?;
-    let (other, rest) = expression(alloc, text, rest, names, levels, inside)?;
+    let (condition, rest) = argument(alloc, text, tokens, names, b"(", levels, inside)?;
+    let (then, rest) = argument(alloc, text, rest, names, b",", levels, inside)?;
+    let (other, rest) = argument(alloc, text, rest, names, b",", levels, inside)?;
     let rest = behind_sign(text, rest, b")").ok_or(ExprFault::BadExpr)?;
     Ok((selection(alloc, condition, then, other, depth)?, rest))
 }
@@ -253,7 +266,7 @@ pub(crate) fn read_all(
     names: &mut Names,
 ) -> Result<Tree, ExprFault>
     requires { CanRead text.now names.old tokens.now }
-    ensures read { Gives (λ tree. parsed tree.expr names.new []) result (all_of names.old (lexemes text.now tokens.now)) }
+    ensures read { Gives NoMemory (λ tree. parsed tree.expr names.new []) result (all_of names.old (lexemes text.now tokens.now)) }
     ensures kept { Extends names.old names.new }
 {
     let (tree, rest) = expression(alloc, text, tokens, names, MAX_OPEN + 1, MAX_DEPTH)?;

@@ -1,5 +1,6 @@
 //! Expressions with no parts: numbers, places, and reads of variables.
 ghost use Rattle.std.specs.Prelude.{◌≡◌, ◌+◌, ◌<◌, ◌^◌, length, All, IfOk, IfSome, Ok};
+ghost use Rattle.kernel_parse.specs.declared.fault.ExprFault.TheVariants.{NoMemory};
 ghost use Rattle.kernel_parse.specs.Reading.{Gives, parsed, offset_at, read_by, fine_at, coarse_at, own_at, variable_at, read_at, leaf_at};
 ghost use Rattle.kernel_parse.specs.Source.{LiesIn, IsBehind, CanRead, Extends, lexemes};
 
@@ -16,7 +17,7 @@ use uts_lex::{Names, Token};
 #[tactic(auto, using(crate::specs::SourceLaws::IsBehind_trans), unfolding(crate::specs::Reading::offset_at))]
 fn offset<'a>(text: &[u8], tokens: &'a [Token]) -> Result<([i64; 3], &'a [Token]), ExprFault>
     requires { All (LiesIn text.now) tokens.now }
-    ensures read { Gives (λ r. (r.0, lexemes text.now r.1.now)) result (offset_at (lexemes text.now tokens.now)) }
+    ensures read { Gives NoMemory (λ r. (r.0, lexemes text.now r.1.now)) result (offset_at (lexemes text.now tokens.now)) }
     ensures rest { IfOk result (λ r. IsBehind text.now tokens.now r.1.now) }
 {
     let rest = behind_sign(text, tokens, b"[").ok_or(ExprFault::BadExpr)?;
@@ -40,7 +41,7 @@ fn read_by<'a>(
     name: &[u8],
 ) -> Result<(Tree, &'a [Token]), ExprFault>
     requires { CanRead text.now names.old tokens.now }
-    ensures read { Gives (λ r. parsed r.0.expr names.new (lexemes text.now r.1.now)) result (read_by store how names.old name.now (lexemes text.now tokens.now)) }
+    ensures read { Gives NoMemory (λ r. parsed r.0.expr names.new (lexemes text.now r.1.now)) result (read_by store how names.old name.now (lexemes text.now tokens.now)) }
     ensures rest { IfOk result (λ r. CanRead text.now names.new r.1.now) }
     ensures kept { Extends names.old names.new }
 {
@@ -65,7 +66,7 @@ fn fine<'a>(
     how: How,
 ) -> Result<(Tree, &'a [Token]), ExprFault>
     requires { CanRead text.now names.old tokens.now }
-    ensures read { Gives (λ r. parsed r.0.expr names.new (lexemes text.now r.1.now)) result (fine_at store how names.old (lexemes text.now tokens.now)) }
+    ensures read { Gives NoMemory (λ r. parsed r.0.expr names.new (lexemes text.now r.1.now)) result (fine_at store how names.old (lexemes text.now tokens.now)) }
     ensures rest { IfOk result (λ r. CanRead text.now names.new r.1.now) }
     ensures kept { Extends names.old names.new }
 {
@@ -88,7 +89,7 @@ fn coarse<'a>(
     store: Store,
 ) -> Result<(Tree, &'a [Token]), ExprFault>
     requires { CanRead text.now names.old tokens.now }
-    ensures read { Gives (λ r. parsed r.0.expr names.new (lexemes text.now r.1.now)) result (coarse_at store names.old (lexemes text.now tokens.now)) }
+    ensures read { Gives NoMemory (λ r. parsed r.0.expr names.new (lexemes text.now r.1.now)) result (coarse_at store names.old (lexemes text.now tokens.now)) }
     ensures rest { IfOk result (λ r. CanRead text.now names.new r.1.now) }
     ensures kept { Extends names.old names.new }
 {
@@ -105,7 +106,7 @@ fn own<'a>(
     store: Store,
 ) -> Result<(Tree, &'a [Token]), ExprFault>
     requires { CanRead text.now names.old tokens.now }
-    ensures read { Gives (λ r. parsed r.0.expr names.new (lexemes text.now r.1.now)) result (own_at store names.old (lexemes text.now tokens.now)) }
+    ensures read { Gives NoMemory (λ r. parsed r.0.expr names.new (lexemes text.now r.1.now)) result (own_at store names.old (lexemes text.now tokens.now)) }
     ensures rest { IfOk result (λ r. CanRead text.now names.new r.1.now) }
     ensures kept { Extends names.old names.new }
 {
@@ -126,7 +127,7 @@ fn variable<'a>(
     store: Store,
 ) -> Result<(Tree, &'a [Token]), ExprFault>
     requires { CanRead text.now names.old tokens.now }
-    ensures read { Gives (λ r. parsed r.0.expr names.new (lexemes text.now r.1.now)) result (variable_at store names.old (lexemes text.now tokens.now)) }
+    ensures read { Gives NoMemory (λ r. parsed r.0.expr names.new (lexemes text.now r.1.now)) result (variable_at store names.old (lexemes text.now tokens.now)) }
     ensures rest { IfOk result (λ r. CanRead text.now names.new r.1.now) }
     ensures kept { Extends names.old names.new }
 {
@@ -147,7 +148,7 @@ fn read<'a>(
     names: &mut Names,
 ) -> Result<(Tree, &'a [Token]), ExprFault>
     requires { CanRead text.now names.old tokens.now }
-    ensures read { Gives (λ r. parsed r.0.expr names.new (lexemes text.now r.1.now)) result (read_at names.old (lexemes text.now tokens.now)) }
+    ensures read { Gives NoMemory (λ r. parsed r.0.expr names.new (lexemes text.now r.1.now)) result (read_at names.old (lexemes text.now tokens.now)) }
     ensures rest { IfOk result (λ r. CanRead text.now names.new r.1.now) }
     ensures kept { Extends names.old names.new }
 {
@@ -164,7 +165,7 @@ pub(crate) fn read_leaf<'a>(
     names: &mut Names,
 ) -> Result<(Tree, &'a [Token]), ExprFault>
     requires { CanRead text.now names.old tokens.now }
-    ensures read { Gives (λ r. parsed r.0.expr names.new (lexemes text.now r.1.now)) result (leaf_at names.old (lexemes text.now tokens.now)) }
+    ensures read { Gives NoMemory (λ r. parsed r.0.expr names.new (lexemes text.now r.1.now)) result (leaf_at names.old (lexemes text.now tokens.now)) }
     ensures rest { IfOk result (λ r. CanRead text.now names.new r.1.now) }
     ensures kept { Extends names.old names.new }
 {

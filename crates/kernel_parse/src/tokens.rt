@@ -1,12 +1,13 @@
 //! What stands first among some tokens of a text, and the tokens behind it.
 ghost use Rattle.std.specs.Prelude.{◌≡◌, All, IfSome, map};
 ghost use Rattle.std.specs.Option.{option_map};
-ghost use Rattle.kernel_parse.specs.Signs.{is_word, meaning_in, entry_of, op_of, store_of, fine_of};
+ghost use Rattle.kernel_parse.specs.Signs.{is_word, meaning_of, meaning_in, entry_of, comparison_of, op_of, call_of, store_of, fine_of};
 ghost use Rattle.kernel_parse.specs.Reading.{behind, behind_sign, first_as, number_of_token, name_of_token, atom_of, dot_name_at, signed_at, IsLeaf};
 ghost use Rattle.kernel_parse.specs.Source.{LiesIn, IsBehind, lexemes};
 
 use crate::lexeme::{
-    FINE_FORMS, Operators, STORES, atom_of, is_lexeme, meaning_of, name_of, number_of, operator_of,
+    CALLS, COMPARISONS, Chain, FACTOR_OPERATORS, FINE_FORMS, STORES, TERM_OPERATORS, atom_of,
+    is_lexeme, meaning_of, name_of, number_of,
 };
 use kernel_ast::{Expr, How, Op, Store};
 use uts_lex::{Kind, Token};
@@ -39,18 +40,19 @@ pub fn behind_word<'a>(text: &[u8], tokens: &'a [Token], bytes: &[u8]) -> Option
     }
 }
 
-/// An operator of this kind.
-pub(crate) fn split_operator<'a>(
+/// What the first token means, by a table of tokens of this kind, and the tokens behind it.
+pub(crate) fn split_of_kind<'a, T: Copy>(
     text: &[u8],
     tokens: &'a [Token],
-    kind: Operators,
-) -> Option<(Op, &'a [Token])>
+    kind: Kind,
+    table: &[(&[u8], T)],
+) -> Option<(T, &'a [Token])>
     requires { All (LiesIn text.now) tokens.now }
-    ensures read { option_map (λ r. (r.0, lexemes text.now r.1.now)) result ≡ first_as (op_of kind) (lexemes text.now tokens.now) }
+    ensures read { option_map (λ r. (r.0, lexemes text.now r.1.now)) result ≡ first_as (meaning_of kind (map entry_of table.now)) (lexemes text.now tokens.now) }
     ensures rest { IfSome result (λ r. IsBehind text.now tokens.now r.1.now) }
 {
     let (first, rest) = tokens.split_first()?;
-    Some((operator_of(text, first, kind)?, rest))
+    Some((meaning_of(text, first, kind, table)?, rest))
 }
 
 /// What the first token means, by a table of words, and the tokens behind it.
@@ -63,8 +65,40 @@ pub fn split_meaning<'a, T: Copy>(
     ensures read { option_map (λ r. (r.0, lexemes text.now r.1.now)) result ≡ first_as (meaning_in (map entry_of table.now)) (lexemes text.now tokens.now) }
     ensures rest { IfSome result (λ r. IsBehind text.now tokens.now r.1.now) }
 {
-    let (first, rest) = tokens.split_first()?;
-    Some((meaning_of(text, first, Kind::Word, table)?, rest))
+    split_of_kind(text, tokens, Kind::Word, table)
+}
+
+pub(crate) fn split_comparison<'a>(text: &[u8], tokens: &'a [Token]) -> Option<(Op, &'a [Token])>
+    requires { All (LiesIn text.now) tokens.now }
+    ensures read { option_map (λ r. (r.0, lexemes text.now r.1.now)) result ≡ first_as comparison_of (lexemes text.now tokens.now) }
+    ensures rest { IfSome result (λ r. IsBehind text.now tokens.now r.1.now) }
+{
+    split_of_kind(text, tokens, Kind::Sign, &COMPARISONS)
+}
+
+/// An operator between the operands of a chain.
+pub(crate) fn split_operator<'a>(
+    text: &[u8],
+    tokens: &'a [Token],
+    chain: Chain,
+) -> Option<(Op, &'a [Token])>
+    requires { All (LiesIn text.now) tokens.now }
+    ensures read { option_map (λ r. (r.0, lexemes text.now r.1.now)) result ≡ first_as (op_of chain) (lexemes text.now tokens.now) }
+    ensures rest { IfSome result (λ r. IsBehind text.now tokens.now r.1.now) }
+{
+    match chain {
+        Chain::Sum => split_of_kind(text, tokens, Kind::Sign, &TERM_OPERATORS),
+        Chain::Product => split_of_kind(text, tokens, Kind::Sign, &FACTOR_OPERATORS),
+    }
+}
+
+/// `min` or `max`.
+pub(crate) fn split_call<'a>(text: &[u8], tokens: &'a [Token]) -> Option<(Op, &'a [Token])>
+    requires { All (LiesIn text.now) tokens.now }
+    ensures read { option_map (λ r. (r.0, lexemes text.now r.1.now)) result ≡ first_as call_of (lexemes text.now tokens.now) }
+    ensures rest { IfSome result (λ r. IsBehind text.now tokens.now r.1.now) }
+{
+    split_meaning(text, tokens, &CALLS)
 }
 
 /// `old` or `new`, and the tokens behind it.

@@ -1,6 +1,7 @@
 //! Expressions within the limits, with their size.
 ghost use Rattle.std.specs.Prelude.{◌≡◌, ◌≤◌, IfOk, Some, None};
 ghost use Rattle.kernel_ast.specs.Size.{depth_of, node_count};
+ghost use Rattle.kernel_parse.specs.declared.fault.ExprFault.TheVariants.{NoMemory};
 ghost use Rattle.kernel_parse.specs.Reading.{Gives, IsLeaf, limited};
 
 use crate::fault::ExprFault;
@@ -43,7 +44,7 @@ pub(crate) fn leaf(expr: Expr) -> Tree
 #[tactic(auto, using(kernel_ast::specs::Size::depths_of_forms, kernel_ast::specs::Size::node_counts_of_forms))]
 pub(crate) fn negation(alloc: Global, part: Tree, depth: u32) -> Result<Tree, ExprFault>
     requires { depth ≤ 64 }
-    ensures { Gives (λ tree. tree.expr) result (limited depth (Expr.Neg part.expr)) }
+    ensures { Gives NoMemory (λ tree. tree.expr) result (limited depth (Expr.Neg part.expr)) }
 {
     if part.depth >= depth || part.nodes >= MAX_NODES {
         return Err(ExprFault::BadExpr);
@@ -65,7 +66,7 @@ pub(crate) fn binary(
     depth: u32,
 ) -> Result<Tree, ExprFault>
     requires { depth ≤ 64 }
-    ensures { Gives (λ tree. tree.expr) result (limited depth (Expr.Binary op left.expr right.expr)) }
+    ensures { Gives NoMemory (λ tree. tree.expr) result (limited depth (Expr.Binary op left.expr right.expr)) }
 {
     let below = left.depth.max(right.depth);
     let parts = left.nodes + right.nodes;
@@ -90,7 +91,7 @@ pub(crate) fn selection(
     depth: u32,
 ) -> Result<Tree, ExprFault>
     requires { depth ≤ 64 }
-    ensures { Gives (λ tree. tree.expr) result (limited depth (Expr.Select condition.expr then.expr other.expr)) }
+    ensures { Gives NoMemory (λ tree. tree.expr) result (limited depth (Expr.Select condition.expr then.expr other.expr)) }
 {
     let below = condition.depth.max(then.depth.max(other.depth));
     let parts = condition.nodes + then.nodes + other.nodes;

@@ -4,7 +4,7 @@ use Rattle.std.specs.Prelude.{Result, Ok, Err, IfOk, IfErr}
 use Rattle.problem_types.specs.Form.{IsProblemInForm}
 use Rattle.problem_types.specs.declared.problem.Problem.{Problem}
 use Rattle.problem_file.specs.Grammar.{Spells, IsBadLine}
-use Rattle.problem_file.specs.Laws.{OneProblem, OneBadLine, NoProblemWithABadLine, ProblemsAreInForm}
+use Rattle.problem_file.specs.Laws.{OneProblem, OneBadLine, NoProblemWithABadLine, EveryTextIsJudged, ProblemsAreInForm}
 use Rattle.problem_file.specs.Progress.{Blames}
 use Rattle.problem_file.specs.declared.fault.ParseFault.{ParseFault}
 use Rattle.problem_file.specs.declared.fault.ParseFault.TheVariants.{BadText, NoMemory}
@@ -24,6 +24,16 @@ pub bad_line_only : (text : List ℕ) → OneBadLine → NoProblemWithABadLine �
 bad_line_only text one never (Ok q) found bad line is = absurd (never text line q is found)
 bad_line_only text one never (Err (BadText other)) found bad line is = inl (ap (λ (n : ℕ). Err (BadText n)) (one text other line bad is))
 bad_line_only text one never (Err NoMemory) found bad line is = inr refl
+
+pub one_answer : (text : List ℕ) → EveryTextIsJudged → OneProblem → OneBadLine → NoProblemWithABadLine
+    → (r : Result Problem ParseFault) → IfOk r (λ p. Spells text p) → IfErr r (Blames (IsBadLine text))
+    → ((p : Problem) × Spells text p × ((r ≡ Ok p) ⊎ (r ≡ Err NoMemory)))
+    ⊎ ((line : ℕ) × IsBadLine text line × ((r ≡ Err (BadText line)) ⊎ (r ≡ Err NoMemory)))
+one_answer text judged one_problem one_line never r found bad =
+    elim (judged text) [
+      | inl p ↦ inl (p.0, p.1, found_only text one_problem never r found bad p.0 p.1)
+      | inr line ↦ inr (line.0, line.1, bad_line_only text one_line never r found bad line.0 line.1)
+    ]
 
 pub found_in_form : (text : List ℕ) → length text < 2 ^ 31 → ProblemsAreInForm → (r : Result Problem ParseFault) → IfOk r (λ p. Spells text p) → IfOk r IsProblemInForm
 found_in_form text short in_form (Ok p) found = in_form text p found short

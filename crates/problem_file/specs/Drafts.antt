@@ -71,7 +71,14 @@ with_requirement r t = record t { requirements = t.requirements ++ r ∷ [] }
 abbrev pub with_write : Write → Task → Task
 with_write w t = record t { writes = t.writes ++ w ∷ [] }
 
--- the problem with its lists of tasks changed
+-- the tasks with one more line: the first one of a task, or one of the last task
+abbrev pub with_task_line : ℕ → Statement → List Task → List Task
+with_task_line line (statement.Task name levels materials) ts = ts ++ new_task line name levels materials ∷ []
+with_task_line line (statement.Require store what) ts = map_last (with_requirement (record { line = line; store = store; what = what })) ts
+with_task_line line (statement.Write kind name expr) ts = map_last (with_write (record { line = line; kind = kind; name = name; expr = expr })) ts
+with_task_line line other ts = ts
+
+-- the problem with one of its lists of tasks changed
 abbrev pub with_tasks : TaskList → (List Task → List Task) → Problem → Problem
 with_tasks list.Init change p = record p { init = change p.init }
 with_tasks list.Timestep change p = record p { timestep = change p.timestep }
@@ -91,15 +98,10 @@ with_statement tasks line (statement.Var name centring outside) p =
 with_statement tasks line (statement.Reduction name fold) p =
     record p { reductions = p.reductions ++ (record { line = line; name = name; fold = fold }) ∷ [] }
 with_statement tasks line statement.Init p = record p { init_line = line }
-with_statement tasks line (statement.Task name levels materials) p =
-    with_tasks tasks (λ ts. ts ++ new_task line name levels materials ∷ []) p
-with_statement tasks line (statement.Require store what) p =
-    with_tasks tasks (map_last (with_requirement (record { line = line; store = store; what = what }))) p
-with_statement tasks line (statement.Write kind name expr) p =
-    with_tasks tasks (map_last (with_write (record { line = line; kind = kind; name = name; expr = expr }))) p
 with_statement tasks line statement.Timestep p = record p { timestep_line = line }
 with_statement tasks line (statement.Keep name) p = record p { keeps = p.keeps ++ (record { line = line; name = name }) ∷ [] }
 with_statement tasks line statement.End p = record p { end_line = line }
+with_statement tasks line of_task p = with_tasks tasks (with_task_line line of_task) p
 
 -- the list of tasks in which a place stands, the first one before any
 abbrev pub list_of : Place → TaskList

@@ -1,5 +1,5 @@
 -- What holds of each text.
-use Rattle.std.specs.Prelude.{◌≡◌, ◌<◌, ◌^◌, ℕ, List, length, Some}
+use Rattle.std.specs.Prelude.{◌≡◌, ◌⊎◌, ◌<◌, ◌^◌, ℕ, List, length, Some}
 use Rattle.problem_types.specs.Form.{IsProblemInForm}
 use Rattle.problem_types.specs.declared.problem.Problem.{Problem}
 use Rattle.problem_file.specs.Statements.{statements_of, IsWhole}
@@ -18,6 +18,10 @@ OneBadLine = (text : List ℕ) (line other : ℕ) → IsBadLine text line → Is
 -- a text with a bad line spells no problem
 abbrev pub NoProblemWithABadLine : Type 0
 NoProblemWithABadLine = (text : List ℕ) (line : ℕ) (p : Problem) → IsBadLine text line → Spells text p → ⊥
+
+-- a text spells a problem, or it has a first bad line
+abbrev pub EveryTextIsJudged : Type 0
+EveryTextIsJudged = (text : List ℕ) → ((p : Problem) × Spells text p) ⊎ ((line : ℕ) × IsBadLine text line)
 
 -- a problem that a text shorter than 2^31 bytes spells is in form
 abbrev pub ProblemsAreInForm : Type 0

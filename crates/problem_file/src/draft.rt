@@ -1,6 +1,6 @@
 //! A problem that is built up statement by statement.
-ghost use Rattle.std.specs.Prelude.{◌≡◌, ◌++◌, [], ◌∷◌, OnOk};
-ghost use Rattle.problem_file.specs.Drafts.{empty_problem, map_last, with_box, with_patch, with_requirement, with_write, with_tasks, with_statement, list_of};
+ghost use Rattle.std.specs.Prelude.{◌≡◌, OnOk};
+ghost use Rattle.problem_file.specs.Drafts.{empty_problem, map_last, with_box, with_patch, with_requirement, with_write, with_task_line, with_statement, list_of};
 
 use crate::order::{Place, TaskList};
 use problem_types::{BoxLine, Keep, Level, Num, Problem, Reduction, Require, Task, Var, Write};
@@ -104,30 +104,39 @@ fn add_write(tasks: &mut Items<Task>, write: Write) -> Result<(), AllocError>
     Ok(())
 }
 
-fn add_task_to(p: &mut Problem, list: TaskList, task: Task) -> Result<(), AllocError>
-    ensures { OnOk result (p.new ≡ with_tasks list (λ ts. ts ++ task ∷ []) p.old) }
+/// Adds a line of a task: its first one, or one of the last task. Any other statement changes no task.
+fn add_task_line(
+    alloc: Global,
+    tasks: &mut Items<Task>,
+    line: u32,
+    statement: Statement,
+) -> Result<(), AllocError>
+    ensures { OnOk result (tasks.new ≡ with_task_line line statement tasks.old) }
 {
-    match list {
-        TaskList::Init => p.init.push(task),
-        TaskList::Timestep => p.timestep.push(task),
-    }
-}
-
-fn add_requirement_to(p: &mut Problem, list: TaskList, require: Require) -> Result<(), AllocError>
-    ensures { OnOk result (p.new ≡ with_tasks list (map_last (with_requirement require)) p.old) }
-{
-    match list {
-        TaskList::Init => add_requirement(&mut p.init, require),
-        TaskList::Timestep => add_requirement(&mut p.timestep, require),
-    }
-}
-
-fn add_write_to(p: &mut Problem, list: TaskList, write: Write) -> Result<(), AllocError>
-    ensures { OnOk result (p.new ≡ with_tasks list (map_last (with_write write)) p.old) }
-{
-    match list {
-        TaskList::Init => add_write(&mut p.init, write),
-        TaskList::Timestep => add_write(&mut p.timestep, write),
+    match statement {
+        Statement::Task {
+            name,
+            levels,
+            materials,
+        } => tasks.push(Task {
+            line,
+            name,
+            levels,
+            materials,
+            requirements: Items::new(alloc),
+            writes: Items::new(alloc),
+        }),
+        Statement::Require { store, what } => add_requirement(tasks, Require { line, store, what }),
+        Statement::Write { kind, name, expr } => {
+            let write = Write {
+                line,
+                kind,
+                name,
+                expr,
+            };
+            add_write(tasks, write)
+        }
+        _ => Ok(()),
     }
 }
 
@@ -151,12 +160,13 @@ pub(crate) fn add(
         Statement::Timestep => p.timestep_line = line,
         Statement::End => p.end_line = line,
         Statement::Level(ratio) => {
-            return p.levels.push(Level {
+            let level = Level {
                 line,
                 ratio,
                 boxes: Items::new(alloc),
                 patches: Items::new(alloc),
-            });
+            };
+            return p.levels.push(level);
         }
         Statement::Box(corners) => return add_box(&mut p.levels, line, corners),
         Statement::Patch(corners) => return add_patch(&mut p.levels, line, corners),
@@ -175,34 +185,11 @@ pub(crate) fn add(
         Statement::Reduction { name, fold } => {
             return p.reductions.push(Reduction { line, name, fold });
         }
-        Statement::Task {
-            name,
-            levels,
-            materials,
-        } => {
-            let task = Task {
-                line,
-                name,
-                levels,
-                materials,
-                requirements: Items::new(alloc),
-                writes: Items::new(alloc),
-            };
-            return add_task_to(p, list, task);
-        }
-        Statement::Require { store, what } => {
-            return add_requirement_to(p, list, Require { line, store, what });
-        }
-        Statement::Write { kind, name, expr } => {
-            let write = Write {
-                line,
-                kind,
-                name,
-                expr,
-            };
-            return add_write_to(p, list, write);
-        }
         Statement::Keep(name) => return p.keeps.push(Keep { line, name }),
+        of_task => match list {
+            TaskList::Init => return add_task_line(alloc, &mut p.init, line, of_task),
+            TaskList::Timestep => return add_task_line(alloc, &mut p.timestep, line, of_task),
+        },
     }
     Ok(())
 }

@@ -1,7 +1,9 @@
 //! What holds of the grammar, each law as the contract of a function that does nothing.
-ghost use Rattle.problem_file.specs.Laws.{OneProblem, OneBadLine, NoProblemWithABadLine, ProblemsAreInForm, WholeProblemsAreInOrder};
+ghost use Rattle.problem_file.specs.Laws.{OneProblem, OneBadLine, NoProblemWithABadLine, EveryTextIsJudged, ProblemsAreInForm, WholeProblemsAreInOrder};
 
-use statement_parse::{few_new_names, one_statement, statements_are_in_form};
+use statement_parse::{
+    few_new_names, one_statement, statements_are_in_form, statements_are_judged,
+};
 
 /// A text spells one problem at most.
 pub fn one_problem()
@@ -25,6 +27,15 @@ pub fn no_problem_with_a_bad_line()
 {
     one_statement();
     few_new_names();
+}
+
+/// A text spells a problem, or it has a first bad line.
+pub fn every_text_is_judged()
+    ensures { EveryTextIsJudged }
+{
+    one_statement();
+    few_new_names();
+    statements_are_judged();
 }
 
 /// A problem that a text shorter than 2^31 bytes spells is in form.

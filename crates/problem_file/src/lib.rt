@@ -11,7 +11,7 @@ mod tests;
 
 pub use fault::ParseFault;
 pub use laws::{
-    no_problem_with_a_bad_line, one_bad_line, one_problem, problems_are_in_form,
-    whole_problems_are_in_order,
+    every_text_is_judged, no_problem_with_a_bad_line, one_bad_line, one_problem,
+    problems_are_in_form, whole_problems_are_in_order,
 };
 pub use reading::parse;

@@ -15,7 +15,10 @@ ghost use Rattle.problem_file.specs.Progress.{IsReadTo, Blames};
 
 use crate::draft::{Draft, add, empty_problem, list_of};
 use crate::fault::ParseFault;
-use crate::laws::{no_problem_with_a_bad_line, one_bad_line, one_problem, problems_are_in_form};
+use crate::laws::{
+    every_text_is_judged, no_problem_with_a_bad_line, one_bad_line, one_problem,
+    problems_are_in_form,
+};
 use crate::order::Place;
 use problem_types::{Name, NoMemory, Problem};
 use sqlite_items::Items;
@@ -152,7 +155,10 @@ pub fn parse(alloc: Global, text: &[u8]) -> Result<Problem, ParseFault>
     ensures bad_text { (line : ℕ) → result ≡ Err (ParseFault.BadText line) → IsBadLine text.now line }
     ensures bad_text_only { (line : ℕ) → IsBadLine text.now line
         → (result ≡ Err (ParseFault.BadText line)) ⊎ (result ≡ Err ParseFault.NoMemory) }
+    ensures one_answer { ((p : Problem) × Spells text.now p × ((result ≡ Ok p) ⊎ (result ≡ Err ParseFault.NoMemory)))
+        ⊎ ((line : ℕ) × IsBadLine text.now line × ((result ≡ Err (ParseFault.BadText line)) ⊎ (result ≡ Err ParseFault.NoMemory))) }
 {
+    every_text_is_judged();
     one_problem();
     one_bad_line();
     no_problem_with_a_bad_line();

@@ -1,6 +1,6 @@
 -- What is spelled is read.
-use Rattle.std.proofs.Common.{◌≡◌, ℕ, ◌≤◌, Bool, true, false, List, [], ◌∷◌, ◌++◌, Option, Some, None, ◌⊎◌, inl, inr, map, refl, sym, ◌∙◌, subst, codes, ℤ, arith}
-use Rattle.std.specs.Prelude.{◌||◌, nat_le, if◌then◌else◌}
+use Rattle.std.proofs.Common.{◌≡◌, ℕ, ◌≤◌, Bool, true, false, List, [], ◌∷◌, ◌++◌, Some, None, map, refl, sym, ◌∙◌, subst, codes, ℤ, arith}
+use Rattle.std.specs.Prelude.{◌||◌, nat_le}
 use Rattle.std.specs.Str.{bytes_eq}
 use Rattle.std.proofs.lemmas.List.{append-nil}
 use Rattle.std.proofs.lemmas.Bool.Decides.{nat_tests}
@@ -12,19 +12,19 @@ use Rattle.kernel_parse.specs.Grammar.{Words, SpellsSigned, SpellsExpression}
 use Rattle.kernel_parse.specs.Reading.{signed_at}
 use Rattle.kernel_parse.specs.Signed.{signed_again}
 use Rattle.kernel_parse.specs.Numbers.{is_number-decimal, digits_value-decimal}
-use Rattle.kernel_parse.specs.Firsts.{is_word_true}
 use Rattle.problem_types.specs.declared.problem.Ghost.{Ghost}
 use Rattle.problem_types.specs.declared.problem.GhostKind.{GhostKind}
-use Rattle.problem_types.specs.declared.problem.GhostKind.TheVariants as ghosts
 use Rattle.problem_types.specs.declared.problem.What.{What}
 use Rattle.problem_types.specs.declared.problem.What.TheVariants as what
 use Rattle.problem_types.specs.declared.problem.WriteKind.{WriteKind}
 use Rattle.statement_parse.specs.declared.statement.Corners.{Corners}
 use Rattle.statement_parse.specs.declared.statement.Statement.{Statement}
 use Rattle.statement_parse.specs.declared.statement.Statement.TheVariants as statement
-use Rattle.statement_parse.specs.Tables.{ghosts_of}
+use Rattle.statement_parse.specs.Tables.{ghosts_words}
 use Rattle.statement_parse.specs.Grammar.{Fits, IsFree, AreNumbers, SpellsCorners, corners, SpellsLayers, no_layers, layers, SpellsWhat, same_level, coarser, finer, reduction, SpellsTarget, computes, modifies, reduces, SpellsStatement, version, steps, dump, ghost_limit, materials, level, box, patch, var, fold, init, task, requirement, writes, timestep, keep, end}
-use Rattle.statement_parse.specs.Reading.{stated, number_at, some_number_at, corner_at, corners_at, list_at, setting_at, grid_at, mark_at, name_at, var_parts_at, var_at, fold_parts_at, fold_at, keep_at, task_at, layers_at, layered_at, coarse_at, fine_at, own_at, what_at, requirement_at, named_at, statement_at, target_at}
+use Rattle.statement_parse.specs.Reading.{stated, number_at, some_number_at, corner_at, corners_at, list_at, last_list_at, version_at, ratio_at, unnamed_at, name_at, var_parts_at, var_at, fold_parts_at, fold_at, keep_at, task_at, layers_at, layered_at, coarse_at, fine_at, own_at, what_at, requirement_at, said_at, statement_at, target_at}
+use Rattle.uts_lex.specs.declared.token.Kind.TheVariants.{Word}
+use Rattle.kernel_parse.specs.Tables.{meaning_case}
 use Rattle.statement_parse.proofs.Lists.{list_again}
 
 -- ---- pieces
@@ -57,45 +57,12 @@ unfolding corners_at
 corners_again (corners a b c d e f fa fb fc fd fe ff) =
     rw (corner_again a b c fa fb fc (number d ∷ number e ∷ number f ∷ []), corner_again d e f fd fe ff []) refl
 
-pick : {A : Type 0} (b : Bool) (x : A) (o : Option A) (y : A) → (if b then Some x else o) ≡ Some y → (b ≡ true) ⊎ (o ≡ Some y)
-pick true x o y e = inl refl
-pick false x o y e = inr e
-
--- what holds of each word for layers holds of a token that is one
-ghosts_case : (t : Lexeme) (y : GhostKind) → ghosts_of t ≡ Some y → (P : Lexeme → Type 0)
-    → P (word (codes "cells"))
-    → P (word (codes "nodes"))
-    → P (word (codes "facex"))
-    → P (word (codes "facey"))
-    → P (word (codes "facez"))
-    → P t
-ghosts_case t y e P p0 p1 p2 p3 p4 =
-    elim (pick (is_word (codes "cells") t) ghosts.Cells (if is_word (codes "nodes") t then Some ghosts.Nodes else (if is_word (codes "facex") t then Some ghosts.FaceX else (if is_word (codes "facey") t then Some ghosts.FaceY else (if is_word (codes "facez") t then Some ghosts.FaceZ else None)))) y e) [
-      | inl is ↦ subst P (sym (is_word_true (codes "cells") t is)) p0
-      | inr other0 ↦
-          elim (pick (is_word (codes "nodes") t) ghosts.Nodes (if is_word (codes "facex") t then Some ghosts.FaceX else (if is_word (codes "facey") t then Some ghosts.FaceY else (if is_word (codes "facez") t then Some ghosts.FaceZ else None))) y other0) [
-            | inl is ↦ subst P (sym (is_word_true (codes "nodes") t is)) p1
-            | inr other1 ↦
-                elim (pick (is_word (codes "facex") t) ghosts.FaceX (if is_word (codes "facey") t then Some ghosts.FaceY else (if is_word (codes "facez") t then Some ghosts.FaceZ else None)) y other1) [
-                  | inl is ↦ subst P (sym (is_word_true (codes "facex") t is)) p2
-                  | inr other2 ↦
-                      elim (pick (is_word (codes "facey") t) ghosts.FaceY (if is_word (codes "facez") t then Some ghosts.FaceZ else None) y other2) [
-                        | inl is ↦ subst P (sym (is_word_true (codes "facey") t is)) p3
-                        | inr other3 ↦
-                            elim (pick (is_word (codes "facez") t) ghosts.FaceZ None y other3) [
-                              | inl is ↦ subst P (sym (is_word_true (codes "facez") t is)) p4
-                              | inr other4 ↦ absurd cc
-                            ]
-                      ]
-                ]
-          ]
-    ]
-
 layers_again : {ts : List Lexeme} {g : Ghost} → SpellsLayers ts g → layers_at ts ≡ Some g
 unfolding layers_at
 layers_again no_layers = refl
 layers_again (layers at kind n is some small) =
-    let not_none : is_word (codes "none") at ≡ false = ghosts_case at kind is (λ t. is_word (codes "none") t ≡ false) refl refl refl refl refl in
+    let not_none : is_word (codes "none") at ≡ false =
+    meaning_case Word (λ (t : Lexeme) (k : GhostKind). is_word (codes "none") t ≡ false) ghosts_words at kind is (refl, (refl, (refl, (refl, (refl, tt))))) in
     rw (not_none, is, some_number_again n small some) refl
 
 layered_again : (name : List ℕ) (ts : List Lexeme) (g : Ghost) → IsFree name → SpellsLayers ts g → layered_at (word name ∷ ts) ≡ Some (name, g)
@@ -154,8 +121,11 @@ target_again (reduces name at centring is) free us = rw (free, is) refl
 var_again : (names : Words) (name : List ℕ) (at : Lexeme) (ts : List Lexeme) (outside : ℤ) → SpellsSigned ts outside → signed_at ts ≡ Some (outside, [])
 var_again names name at ts outside s = subst (λ (w : List Lexeme). signed_at w ≡ Some (outside, [])) (append-nil ts) (signed_again s [])
 
-list_alone : (xs : List ℕ) → AreNumbers xs → list_at (map number xs) ≡ Some (xs, [])
-list_alone xs are = subst (λ (w : List Lexeme). list_at w ≡ Some (xs, [])) (append-nil (map number xs)) (list_again xs [] are refl)
+last_list_again : (xs : List ℕ) → AreNumbers xs → last_list_at (map number xs) ≡ Some xs
+unfolding last_list_at
+last_list_again xs are =
+    let alone = subst (λ (w : List Lexeme). list_at w ≡ Some (xs, [])) (append-nil (map number xs)) (list_again xs [] are refl) in
+    rw alone refl
 
 -- how a statement is read
 pub data Reads (ts : List Lexeme) (names : Words) (s : Statement) (after : Words) : Type 0 where
@@ -164,7 +134,7 @@ pub data Reads (ts : List Lexeme) (names : Words) (s : Statement) (after : Words
       → s ≡ statement.Write kind (number_of names name) e → SpellsExpression us (with_name names name) e after → Reads ts names s after
 
 pub statement_again : {ts : List Lexeme} {names : Words} {s : Statement} {after : Words} → SpellsStatement ts names s after → Reads ts names s after
-unfolding statement_at setting_at grid_at mark_at named_at target_at var_at var_parts_at fold_at fold_parts_at keep_at task_at requirement_at
+unfolding statement_at said_at unnamed_at version_at ratio_at target_at var_at var_parts_at fold_at fold_parts_at keep_at task_at requirement_at
 statement_again (version names) = plainly refl (rw (number_again 1 (omega arith)) refl)
 statement_again (steps names n small) = plainly refl (rw (number_again n small) refl)
 statement_again (dump names n some small) = plainly refl (rw (some_number_again n small some) refl)
@@ -177,7 +147,7 @@ statement_again (var names name at centring ts outside free is s) = plainly refl
 statement_again (fold names name at f free is) = plainly refl (rw (free, is) refl)
 statement_again (init names) = plainly refl refl
 statement_again (task names name levels numbers free l m) =
-    plainly refl (rw (free, list_again levels (word (codes "materials") ∷ map number numbers) l refl, list_alone numbers m) refl)
+    plainly refl (rw (free, list_again levels (word (codes "materials") ∷ map number numbers) l refl, last_list_again numbers m) refl)
 statement_again (requirement names after at store ts w is s) = plainly refl (rw (is, what_again s) refl)
 statement_again (writes names after ts us name kind e t free s) = written name kind us e (target_again t free us) refl s
 statement_again (timestep names) = plainly refl refl

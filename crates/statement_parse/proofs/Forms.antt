@@ -1,5 +1,5 @@
 -- Statements that are spelled keep the words before them, and are in form.
-use Rattle.std.proofs.Common.{◌≡◌, ℕ, suc, ◌+◌, ◌<◌, ◌≤◌, ◌^◌, Bool, true, false, cond, List, [], ◌∷◌, ◌++◌, Some, None, length, map, refl, ap, ◌∙◌, arith, codes}
+use Rattle.std.proofs.Common.{◌≡◌, ℕ, suc, ◌+◌, ◌<◌, ◌≤◌, ◌^◌, Bool, true, false, cond, List, [], ◌∷◌, ◌++◌, Some, length, map, refl, ap, ◌∙◌, arith, codes}
 use Rattle.std.specs.Prelude.{◌||◌, not}
 use Rattle.std.specs.List.{list_any, prefix_len}
 use Rattle.std.specs.Str.{bytes_eq}
@@ -9,21 +9,22 @@ use Rattle.uts_lex.specs.Lexemes.{Lexeme}
 use Rattle.uts_lex.specs.Names.{number_of, with_name}
 use Rattle.kernel_ast.specs.declared.expression.Expr.{Expr}
 use Rattle.kernel_ast.specs.Form.{IsExpressionInForm}
-use Rattle.kernel_parse.specs.Signs.{sign, number, word, is_word}
+use Rattle.kernel_parse.specs.Signs.{sign, number, word}
 use Rattle.kernel_parse.specs.Grammar.{Words, SpellsExpression}
 use Rattle.kernel_parse.specs.Source.{Extends}
 use Rattle.kernel_parse.specs.SourceLaws.{Extends_refl, Extends_trans, Extends_with_name, length_with_name}
 use Rattle.problem_types.specs.Form.{IsNumberList, IsLayerNumber, AreLayersInForm, IsWhatInForm}
 use Rattle.problem_types.specs.declared.problem.Ghost.{Ghost}
 use Rattle.problem_types.specs.declared.problem.GhostKind.{GhostKind}
-use Rattle.problem_types.specs.declared.problem.GhostKind.TheVariants as ghosts
 use Rattle.problem_types.specs.declared.problem.What.{What}
 use Rattle.problem_types.specs.declared.problem.WriteKind.{WriteKind}
 use Rattle.statement_parse.specs.declared.statement.Statement.{Statement}
-use Rattle.statement_parse.specs.Tables.{ghosts_of}
+use Rattle.statement_parse.specs.Tables.{ghosts_words, ghosts_of}
 use Rattle.statement_parse.specs.Form.{IsStatementInForm}
 use Rattle.statement_parse.specs.Laws.{FewNewNames, StatementsAreInForm}
 use Rattle.statement_parse.specs.Grammar.{AreNumbers, SpellsLayers, no_layers, layers, SpellsWhat, same_level, coarser, finer, reduction, SpellsTarget, computes, modifies, reduces, SpellsStatement, version, steps, dump, ghost_limit, materials, level, box, patch, var, fold, init, task, requirement, writes, timestep, keep, end}
+use Rattle.uts_lex.specs.declared.token.Kind.TheVariants.{Word}
+use Rattle.kernel_parse.specs.Tables.{meaning_case}
 
 -- ---- the words behind
 
@@ -113,23 +114,7 @@ below : (names : Words) (name : List ℕ) (known : ℕ) → length (with_name na
 below names name known le = let h = number_below names name in omega arith
 
 ghosts_number : (n : ℕ) (kind : GhostKind) (at : Lexeme) → ghosts_of at ≡ Some kind → 1 ≤ n → IsLayerNumber n kind
-ghosts_number n ghosts.None at is some = absurd (never at is)
-  where
-    never : (at : Lexeme) → ghosts_of at ≡ Some ghosts.None → ⊥
-    never at is = by (is_word (codes "cells") at) (is_word (codes "nodes") at) (is_word (codes "facex") at) (is_word (codes "facey") at) (is_word (codes "facez") at) is
-      where
-        by : (a b c d e : Bool) → cond a (Some ghosts.Cells) (cond b (Some ghosts.Nodes) (cond c (Some ghosts.FaceX) (cond d (Some ghosts.FaceY) (cond e (Some ghosts.FaceZ) None)))) ≡ Some ghosts.None → ⊥
-        by true b c d e h = absurd cc
-        by false true c d e h = absurd cc
-        by false false true d e h = absurd cc
-        by false false false true e h = absurd cc
-        by false false false false true h = absurd cc
-        by false false false false false h = absurd cc
-ghosts_number n ghosts.Cells at is some = some
-ghosts_number n ghosts.Nodes at is some = some
-ghosts_number n ghosts.FaceX at is some = some
-ghosts_number n ghosts.FaceY at is some = some
-ghosts_number n ghosts.FaceZ at is some = some
+ghosts_number n kind at is some = meaning_case Word (λ (t : Lexeme) (k : GhostKind). IsLayerNumber n k) ghosts_words at kind is (some, (some, (some, (some, (some, tt)))))
 
 layers_in_form : {ts : List Lexeme} {g : Ghost} → SpellsLayers ts g → AreLayersInForm g
 layers_in_form no_layers = refl

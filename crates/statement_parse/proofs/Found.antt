@@ -22,9 +22,13 @@ use Rattle.problem_types.specs.declared.problem.WriteKind.TheVariants as write
 use Rattle.statement_parse.specs.declared.statement.Corners.{Corners}
 use Rattle.statement_parse.specs.declared.statement.Statement.{Statement}
 use Rattle.statement_parse.specs.declared.statement.Statement.TheVariants as statement
-use Rattle.statement_parse.specs.Tables.{centring_of, fold_of, ghosts_of}
-use Rattle.statement_parse.specs.Grammar.{Fits, IsFree, SpellsCorners, corners, SpellsLayers, no_layers, layers, SpellsWhat, same_level, coarser, finer, reduction, SpellsTarget, computes, modifies, reduces, SpellsStatement, version, steps, dump, ghost_limit, materials, level, box, patch, var, fold, init, task, requirement, timestep, keep, end}
-use Rattle.statement_parse.specs.Reading.{Stated, stated, number_at, some_number_at, corner_at, corners_at, list_at, version_of, level_at, setting_at, grid_at, mark_at, name_at, var_parts_at, var_at, fold_parts_at, fold_at, keep_at, task_at, ghost_of, layers_at, layered_at, coarse_at, fine_at, own_at, what_at, requirement_at, named_at, statement_at, named_target_at, reduced_target_at, target_at}
+use Rattle.statement_parse.specs.declared.statement.StatementKind.{StatementKind}
+use Rattle.statement_parse.specs.declared.statement.StatementKind.TheVariants as kind
+use Rattle.statement_parse.specs.Tables.{statement_words, statement_kind_of, centring_of, fold_of, ghosts_of, write_words, write_of}
+use Rattle.statement_parse.specs.Grammar.{Fits, IsFree, AreNumbers, SpellsCorners, corners, SpellsLayers, no_layers, layers, SpellsWhat, same_level, coarser, finer, reduction, SpellsTarget, computes, modifies, reduces, SpellsStatement, version, steps, dump, ghost_limit, materials, level, box, patch, var, fold, init, task, requirement, timestep, keep, end}
+use Rattle.statement_parse.specs.Reading.{Stated, stated, number_at, some_number_at, corner_at, corners_at, list_at, last_list_at, version_at, ratio_at, unnamed_at, name_at, var_parts_at, var_at, fold_parts_at, fold_at, keep_at, task_at, ghost_of, layers_at, layered_at, coarse_at, fine_at, own_at, what_at, requirement_at, said_at, statement_at, named_target_at, reduced_target_at, target_at}
+use Rattle.uts_lex.specs.declared.token.Kind.TheVariants.{Word}
+use Rattle.kernel_parse.specs.Tables.{meaning_case}
 use Rattle.statement_parse.proofs.Lists.{list_some}
 
 -- ---- pieces
@@ -42,9 +46,6 @@ keyword_case bytes f d ts y P e taken other =
       | inl b ↦ subst P (sym (behind_word_some bytes ts b.0 b.1)) (taken b.0 b.2)
       | inr b ↦ other b.1
     ]
-
-no_more : {B : Type 0} (y : B) (P : Type 0) → None ≡ Some y → P
-no_more y P e = absurd cc
 
 first_number : (ts : List Lexeme) (n : ℕ × List Lexeme) → first_as number_of_token ts ≡ Some n → (ts ≡ number n.0 ∷ n.1) × (n.0 < 2 ^ 64)
 first_number ts n e =
@@ -239,112 +240,92 @@ restated : (first : Lexeme) (ts us : List Lexeme) (names : Words) (r q : Stated)
 restated first ts us names r q tokens is spelled =
     subst (λ (w : List Lexeme). Says (first ∷ w) names q) (sym tokens) (subst (λ (x : Stated). Says (first ∷ ts) names x) is spelled)
 
-version_some : (names : Words) (ts : List Lexeme) (s : Statement) → (number_at ts >>= λ n. version_of n) ≡ Some s → SpellsStatement (word (codes "problem") ∷ ts) names s names
-version_some names ts s e =
-    let p = bind_some (number_at ts) (λ n. version_of n) s e in
+version_some : (ts : List Lexeme) (n : ℕ) → version_at ts ≡ Some n → (ts ≡ number 1 ∷ []) × (1 ≡ n)
+unfolding version_at
+version_some ts n e =
+    let p = bind_some (number_at ts) (λ (m : ℕ). if m == 1 then Some m else None) n e in
     let q = number_at_some ts p.0 p.1 in
-    let t = test_some (p.0 == 1) (statement.Version p.0) s p.2 in
+    let t = test_some (p.0 == 1) p.0 n p.2 in
     let one : p.0 ≡ 1 = grind (arith, nat_tests, t.0) in
-    let tokens : ts ≡ number 1 ∷ [] = q.0 ∙ ap (λ (m : ℕ). number m ∷ []) one in
-    respelled (word (codes "problem") ∷ number 1 ∷ []) (word (codes "problem") ∷ ts) names names (statement.Version 1) s
-    (ap (λ (w : List Lexeme). word (codes "problem") ∷ w) tokens) (ap (λ (m : ℕ). statement.Version m) (sym one) ∙ t.1) (version names)
+    (q.0 ∙ ap (λ (m : ℕ). number m ∷ []) one, sym one ∙ t.1)
 
-steps_some : (names : Words) (ts : List Lexeme) (s : Statement) → option_map (λ n. statement.Steps n) (number_at ts) ≡ Some s → SpellsStatement (word (codes "steps") ∷ ts) names s names
-steps_some names ts s e =
-    let m = map_some (λ (n : ℕ). statement.Steps n) (number_at ts) s e in
-    let l = number_at_some ts m.0 m.1 in
-    respelled (word (codes "steps") ∷ number m.0 ∷ []) (word (codes "steps") ∷ ts) names names (statement.Steps m.0) s (ap (λ (w : List Lexeme). word (codes "steps") ∷ w) l.0) m.2 (steps names m.0 l.1)
+ratio_some : (ts : List Lexeme) (n : ℕ) → ratio_at ts ≡ Some n → (ts ≡ word (codes "ratio") ∷ number n ∷ []) × Fits n
+unfolding ratio_at
+ratio_some ts n e =
+    let p = bind_some (behind (is_word (codes "ratio")) ts) (λ (rest : List Lexeme). number_at rest) n e in
+    let q = number_at_some p.0 n p.2 in
+    (behind_word_some (codes "ratio") ts p.0 p.1 ∙ ap (λ (w : List Lexeme). word (codes "ratio") ∷ w) q.0, q.1)
 
-dump_some : (names : Words) (ts : List Lexeme) (s : Statement) → option_map (λ n. statement.Dump n) (some_number_at ts) ≡ Some s → SpellsStatement (word (codes "dump") ∷ ts) names s names
-dump_some names ts s e =
-    let m = map_some (λ (n : ℕ). statement.Dump n) (some_number_at ts) s e in
-    let l = some_number_some ts m.0 m.1 in
-    respelled (word (codes "dump") ∷ number m.0 ∷ []) (word (codes "dump") ∷ ts) names names (statement.Dump m.0) s (ap (λ (w : List Lexeme). word (codes "dump") ∷ w) l.0) m.2 (dump names m.0 l.2 l.1)
+-- the first word of a statement that does not write
+first_word : StatementKind → List ℕ
+first_word kind.Version = codes "problem"
+first_word kind.Steps = codes "steps"
+first_word kind.Dump = codes "dump"
+first_word kind.Ghost = codes "ghost"
+first_word kind.Materials = codes "materials"
+first_word kind.Level = codes "level"
+first_word kind.Box = codes "box"
+first_word kind.Patch = codes "patch"
+first_word kind.Var = codes "var"
+first_word kind.Reduction = codes "reduction"
+first_word kind.Init = codes "init"
+first_word kind.Task = codes "task"
+first_word kind.Require = codes "requires"
+first_word kind.Write = []
+first_word kind.Timestep = codes "timestep"
+first_word kind.Keep = codes "keep"
+first_word kind.End = codes "end"
 
-ghost_some : (names : Words) (ts : List Lexeme) (s : Statement) → option_map (λ n. statement.Ghost n) (number_at ts) ≡ Some s → SpellsStatement (word (codes "ghost") ∷ ts) names s names
-ghost_some names ts s e =
-    let m = map_some (λ (n : ℕ). statement.Ghost n) (number_at ts) s e in
-    let l = number_at_some ts m.0 m.1 in
-    respelled (word (codes "ghost") ∷ number m.0 ∷ []) (word (codes "ghost") ∷ ts) names names (statement.Ghost m.0) s (ap (λ (w : List Lexeme). word (codes "ghost") ∷ w) l.0) m.2 (ghost_limit names m.0 l.1)
+kind_some : (t : Lexeme) (k : StatementKind) → statement_kind_of t ≡ Some k → t ≡ word (first_word k)
+unfolding first_word
+kind_some t k e =
+    meaning_case Word (λ (l : Lexeme) (x : StatementKind). l ≡ word (first_word x)) statement_words t k e
+    (refl, (refl, (refl, (refl, (refl, (refl, (refl, (refl, (refl, (refl, (refl, (refl, (refl, (refl, (refl, (refl, tt))))))))))))))))
 
-materials_some : (names : Words) (ts : List Lexeme) (s : Statement) → option_map (λ n. statement.Materials n) (some_number_at ts) ≡ Some s → SpellsStatement (word (codes "materials") ∷ ts) names s names
-materials_some names ts s e =
-    let m = map_some (λ (n : ℕ). statement.Materials n) (some_number_at ts) s e in
-    let l = some_number_some ts m.0 m.1 in
-    respelled (word (codes "materials") ∷ number m.0 ∷ []) (word (codes "materials") ∷ ts) names names (statement.Materials m.0) s (ap (λ (w : List Lexeme). word (codes "materials") ∷ w) l.0) m.2 (materials names m.0 l.2 l.1)
+module _ (names : Words) where
+  -- what was made of what was read
+  made_some : {A : Type 0} (make : A → Statement) (read : Option A) (ts : List Lexeme) (s : Statement) → option_map make read ≡ Some s
+      → ((a : A) → read ≡ Some a → SpellsStatement ts names (make a) names) → SpellsStatement ts names s names
+  made_some make read ts s e spelled =
+      let m = map_some make read s e in
+      subst (λ (x : Statement). SpellsStatement ts names x names) m.2 (spelled m.0 m.1)
 
-ratio_some : (names : Words) (ts : List Lexeme) (s : Statement) → option_map (λ n. statement.Level n) (number_at ts) ≡ Some s → SpellsStatement (word (codes "level") ∷ word (codes "ratio") ∷ ts) names s names
-ratio_some names ts s e =
-    let m = map_some (λ (n : ℕ). statement.Level n) (number_at ts) s e in
-    let l = number_at_some ts m.0 m.1 in
-    respelled (word (codes "level") ∷ word (codes "ratio") ∷ number m.0 ∷ []) (word (codes "level") ∷ word (codes "ratio") ∷ ts) names names (statement.Level m.0) s (ap (λ (w : List Lexeme). word (codes "level") ∷ word (codes "ratio") ∷ w) l.0) m.2 (level names m.0 l.1)
+  mark_some : (first : Lexeme) (made : Statement) (ts : List Lexeme) (s : Statement) → if_empty ts made ≡ Some s
+      → SpellsStatement (first ∷ []) names made names → SpellsStatement (first ∷ ts) names s names
+  mark_some first made ts s e spelled =
+      let q = if_empty_some ts made s e in
+      respelled (first ∷ []) (first ∷ ts) names names made s (ap (λ (w : List Lexeme). first ∷ w) q.0) q.1 spelled
 
-level_some : (names : Words) (ts : List Lexeme) (s : Statement) → level_at ts ≡ Some s → SpellsStatement (word (codes "level") ∷ ts) names s names
-level_some names ts s e =
-    let p = bind_some (behind (is_word (codes "ratio")) ts) (λ rest. option_map (λ n. statement.Level n) (number_at rest)) s e in
-    subst (λ (w : List Lexeme). SpellsStatement (word (codes "level") ∷ w) names s names) (sym (behind_word_some (codes "ratio") ts p.0 p.1)) (ratio_some names p.0 s p.2)
+  moved : (first : Lexeme) (ts us : List Lexeme) (s : Statement) → us ≡ ts → SpellsStatement (first ∷ ts) names s names → SpellsStatement (first ∷ us) names s names
+  moved first ts us s is spelled = subst (λ (w : List Lexeme). SpellsStatement (first ∷ w) names s names) (sym is) spelled
 
-box_some : (names : Words) (ts : List Lexeme) (s : Statement) → option_map (λ c. statement.Box c) (corners_at ts) ≡ Some s → SpellsStatement (word (codes "box") ∷ ts) names s names
-box_some names ts s e =
-    let m = map_some (λ (c : Corners). statement.Box c) (corners_at ts) s e in
-    subst (λ (x : Statement). SpellsStatement (word (codes "box") ∷ ts) names x names) m.2 (box names ts m.0 (corners_some ts m.0 m.1))
-
-patch_some : (names : Words) (ts : List Lexeme) (s : Statement) → option_map (λ c. statement.Patch c) (corners_at ts) ≡ Some s → SpellsStatement (word (codes "patch") ∷ ts) names s names
-patch_some names ts s e =
-    let m = map_some (λ (c : Corners). statement.Patch c) (corners_at ts) s e in
-    subst (λ (x : Statement). SpellsStatement (word (codes "patch") ∷ ts) names x names) m.2 (patch names ts m.0 (corners_some ts m.0 m.1))
-
-init_some : (names : Words) (ts : List Lexeme) (s : Statement) → if_empty ts statement.Init ≡ Some s → SpellsStatement (word (codes "init") ∷ ts) names s names
-init_some names ts s e =
-    let q = if_empty_some ts statement.Init s e in
-    respelled (word (codes "init") ∷ []) (word (codes "init") ∷ ts) names names statement.Init s (ap (λ (w : List Lexeme). word (codes "init") ∷ w) q.0) q.1 (init names)
-
-timestep_some : (names : Words) (ts : List Lexeme) (s : Statement) → if_empty ts statement.Timestep ≡ Some s → SpellsStatement (word (codes "timestep") ∷ ts) names s names
-timestep_some names ts s e =
-    let q = if_empty_some ts statement.Timestep s e in
-    respelled (word (codes "timestep") ∷ []) (word (codes "timestep") ∷ ts) names names statement.Timestep s (ap (λ (w : List Lexeme). word (codes "timestep") ∷ w) q.0) q.1 (timestep names)
-
-end_some : (names : Words) (ts : List Lexeme) (s : Statement) → if_empty ts statement.End ≡ Some s → SpellsStatement (word (codes "end") ∷ ts) names s names
-end_some names ts s e =
-    let q = if_empty_some ts statement.End s e in
-    respelled (word (codes "end") ∷ []) (word (codes "end") ∷ ts) names names statement.End s (ap (λ (w : List Lexeme). word (codes "end") ∷ w) q.0) q.1 (end names)
-
-setting_some : (names : Words) (ts : List Lexeme) (s : Statement) → setting_at ts ≡ Some s → SpellsStatement ts names s names
-unfolding setting_at
-setting_some names ts s e =
-    keyword_case (codes "problem") (λ rest. number_at rest >>= λ n. version_of n) (option_map_or (λ rest. option_map (λ n. statement.Steps n) (number_at rest)) (behind (is_word (codes "steps")) ts) (option_map_or (λ rest. option_map (λ n. statement.Dump n) (some_number_at rest)) (behind (is_word (codes "dump")) ts) (option_map_or (λ rest. option_map (λ n. statement.Ghost n) (number_at rest)) (behind (is_word (codes "ghost")) ts) (option_map_or (λ rest. option_map (λ n. statement.Materials n) (some_number_at rest)) (behind (is_word (codes "materials")) ts) None)))) ts s (λ w. SpellsStatement w names s names) e
-    (λ rest h. version_some names rest s h)
-    (λ h. keyword_case (codes "steps") (λ rest. option_map (λ n. statement.Steps n) (number_at rest)) (option_map_or (λ rest. option_map (λ n. statement.Dump n) (some_number_at rest)) (behind (is_word (codes "dump")) ts) (option_map_or (λ rest. option_map (λ n. statement.Ghost n) (number_at rest)) (behind (is_word (codes "ghost")) ts) (option_map_or (λ rest. option_map (λ n. statement.Materials n) (some_number_at rest)) (behind (is_word (codes "materials")) ts) None))) ts s (λ w. SpellsStatement w names s names) h
-    (λ rest h. steps_some names rest s h)
-    (λ h. keyword_case (codes "dump") (λ rest. option_map (λ n. statement.Dump n) (some_number_at rest)) (option_map_or (λ rest. option_map (λ n. statement.Ghost n) (number_at rest)) (behind (is_word (codes "ghost")) ts) (option_map_or (λ rest. option_map (λ n. statement.Materials n) (some_number_at rest)) (behind (is_word (codes "materials")) ts) None)) ts s (λ w. SpellsStatement w names s names) h
-    (λ rest h. dump_some names rest s h)
-    (λ h. keyword_case (codes "ghost") (λ rest. option_map (λ n. statement.Ghost n) (number_at rest)) (option_map_or (λ rest. option_map (λ n. statement.Materials n) (some_number_at rest)) (behind (is_word (codes "materials")) ts) None) ts s (λ w. SpellsStatement w names s names) h
-    (λ rest h. ghost_some names rest s h)
-    (λ h. keyword_case (codes "materials") (λ rest. option_map (λ n. statement.Materials n) (some_number_at rest)) None ts s (λ w. SpellsStatement w names s names) h
-    (λ rest h. materials_some names rest s h)
-    (λ h. no_more s (SpellsStatement ts names s names) h)))))
-
-grid_some : (names : Words) (ts : List Lexeme) (s : Statement) → grid_at ts ≡ Some s → SpellsStatement ts names s names
-unfolding grid_at
-grid_some names ts s e =
-    keyword_case (codes "level") (λ rest. level_at rest) (option_map_or (λ rest. option_map (λ c. statement.Box c) (corners_at rest)) (behind (is_word (codes "box")) ts) (option_map_or (λ rest. option_map (λ c. statement.Patch c) (corners_at rest)) (behind (is_word (codes "patch")) ts) None)) ts s (λ w. SpellsStatement w names s names) e
-    (λ rest h. level_some names rest s h)
-    (λ h. keyword_case (codes "box") (λ rest. option_map (λ c. statement.Box c) (corners_at rest)) (option_map_or (λ rest. option_map (λ c. statement.Patch c) (corners_at rest)) (behind (is_word (codes "patch")) ts) None) ts s (λ w. SpellsStatement w names s names) h
-    (λ rest h. box_some names rest s h)
-    (λ h. keyword_case (codes "patch") (λ rest. option_map (λ c. statement.Patch c) (corners_at rest)) None ts s (λ w. SpellsStatement w names s names) h
-    (λ rest h. patch_some names rest s h)
-    (λ h. no_more s (SpellsStatement ts names s names) h)))
-
-mark_some : (names : Words) (ts : List Lexeme) (s : Statement) → mark_at ts ≡ Some s → SpellsStatement ts names s names
-unfolding mark_at
-mark_some names ts s e =
-    keyword_case (codes "init") (λ rest. if_empty rest statement.Init) (option_map_or (λ rest. if_empty rest statement.Timestep) (behind (is_word (codes "timestep")) ts) (option_map_or (λ rest. if_empty rest statement.End) (behind (is_word (codes "end")) ts) None)) ts s (λ w. SpellsStatement w names s names) e
-    (λ rest h. init_some names rest s h)
-    (λ h. keyword_case (codes "timestep") (λ rest. if_empty rest statement.Timestep) (option_map_or (λ rest. if_empty rest statement.End) (behind (is_word (codes "end")) ts) None) ts s (λ w. SpellsStatement w names s names) h
-    (λ rest h. timestep_some names rest s h)
-    (λ h. keyword_case (codes "end") (λ rest. if_empty rest statement.End) None ts s (λ w. SpellsStatement w names s names) h
-    (λ rest h. end_some names rest s h)
-    (λ h. no_more s (SpellsStatement ts names s names) h)))
+  unnamed_some : (k : StatementKind) (ts : List Lexeme) (s : Statement) → unnamed_at k ts ≡ Some s → SpellsStatement (word (first_word k) ∷ ts) names s names
+  unfolding unnamed_at first_word
+  unnamed_some kind.Version ts s e =
+      made_some (λ n. statement.Version n) (version_at ts) (word (codes "problem") ∷ ts) s e
+      (λ n is. let v = version_some ts n is in respelled (word (codes "problem") ∷ number 1 ∷ []) (word (codes "problem") ∷ ts) names names (statement.Version 1) (statement.Version n)
+      (ap (λ (w : List Lexeme). word (codes "problem") ∷ w) v.0) (ap (λ (m : ℕ). statement.Version m) v.1) (version names))
+  unnamed_some kind.Steps ts s e =
+      made_some (λ n. statement.Steps n) (number_at ts) (word (codes "steps") ∷ ts) s e
+      (λ n is. let v = number_at_some ts n is in moved (word (codes "steps")) (number n ∷ []) ts (statement.Steps n) v.0 (steps names n v.1))
+  unnamed_some kind.Dump ts s e =
+      made_some (λ n. statement.Dump n) (some_number_at ts) (word (codes "dump") ∷ ts) s e
+      (λ n is. let v = some_number_some ts n is in moved (word (codes "dump")) (number n ∷ []) ts (statement.Dump n) v.0 (dump names n v.2 v.1))
+  unnamed_some kind.Ghost ts s e =
+      made_some (λ n. statement.Ghost n) (number_at ts) (word (codes "ghost") ∷ ts) s e
+      (λ n is. let v = number_at_some ts n is in moved (word (codes "ghost")) (number n ∷ []) ts (statement.Ghost n) v.0 (ghost_limit names n v.1))
+  unnamed_some kind.Materials ts s e =
+      made_some (λ n. statement.Materials n) (some_number_at ts) (word (codes "materials") ∷ ts) s e
+      (λ n is. let v = some_number_some ts n is in moved (word (codes "materials")) (number n ∷ []) ts (statement.Materials n) v.0 (materials names n v.2 v.1))
+  unnamed_some kind.Level ts s e =
+      made_some (λ n. statement.Level n) (ratio_at ts) (word (codes "level") ∷ ts) s e
+      (λ n is. let v = ratio_some ts n is in moved (word (codes "level")) (word (codes "ratio") ∷ number n ∷ []) ts (statement.Level n) v.0 (level names n v.1))
+  unnamed_some kind.Box ts s e = made_some (λ c. statement.Box c) (corners_at ts) (word (codes "box") ∷ ts) s e (λ c is. box names ts c (corners_some ts c is))
+  unnamed_some kind.Patch ts s e = made_some (λ c. statement.Patch c) (corners_at ts) (word (codes "patch") ∷ ts) s e (λ c is. patch names ts c (corners_some ts c is))
+  unnamed_some kind.Init ts s e = mark_some (word (codes "init")) statement.Init ts s e (init names)
+  unnamed_some kind.Timestep ts s e = mark_some (word (codes "timestep")) statement.Timestep ts s e (timestep names)
+  unnamed_some kind.End ts s e = mark_some (word (codes "end")) statement.End ts s e (end names)
+  unnamed_some k ts s e = absurd cc
 
 -- ---- statements with a name
 
@@ -415,31 +396,39 @@ keep_some names ts r e =
 abbrev task_of : Words → List ℕ → List ℕ → List ℕ → Stated
 task_of names name levels numbers = stated (statement.Task (number_of names name) levels numbers) (with_name names name)
 
+last_list_some : (ts : List Lexeme) (numbers : List ℕ) → last_list_at ts ≡ Some numbers → (ts ≡ map number numbers) × AreNumbers numbers
+unfolding last_list_at
+last_list_some ts numbers e =
+    let p = bind_some (list_at ts) (λ (l : List ℕ × List Lexeme). if_empty l.1 l.0) numbers e in
+    let l = list_some ts p.0 p.1 in
+    let q = if_empty_some p.0.1 p.0.0 numbers p.2 in
+    let tokens : ts ≡ map number p.0.0 = l.0 ∙ ap (λ (w : List Lexeme). map number p.0.0 ++ w) q.0 ∙ append-nil (map number p.0.0) in
+    subst (λ (w : List ℕ). (ts ≡ map number w) × AreNumbers w) q.1 (tokens, l.1)
+
 task_some : (names : Words) (ts : List Lexeme) (r : Stated) → task_at names ts ≡ Some r → Says (word (codes "task") ∷ ts) names r
 unfolding task_at
 task_some names ts r e =
-    let b1 = bind_some (first_as name_of_token ts) (λ (name : List ℕ × List Lexeme). behind (is_word (codes "levels")) name.1 >>= λ at. list_at at >>= λ levels. behind (is_word (codes "materials")) levels.1 >>= λ here. list_at here >>= λ numbers. if_empty numbers.1 (task_of names name.0 levels.0 numbers.0)) r e in
+    let b1 = bind_some (first_as name_of_token ts) (λ (name : List ℕ × List Lexeme). behind (is_word (codes "levels")) name.1 >>= λ at. list_at at >>= λ levels. behind (is_word (codes "materials")) levels.1 >>= λ here. last_list_at here >>= λ numbers. Some (task_of names name.0 levels.0 numbers)) r e in
     let name = b1.0 in
-    let b2 = bind_some (behind (is_word (codes "levels")) name.1) (λ (at : List Lexeme). list_at at >>= λ levels. behind (is_word (codes "materials")) levels.1 >>= λ here. list_at here >>= λ numbers. if_empty numbers.1 (task_of names name.0 levels.0 numbers.0)) r b1.2 in
+    let b2 = bind_some (behind (is_word (codes "levels")) name.1) (λ (at : List Lexeme). list_at at >>= λ levels. behind (is_word (codes "materials")) levels.1 >>= λ here. last_list_at here >>= λ numbers. Some (task_of names name.0 levels.0 numbers)) r b1.2 in
     let at = b2.0 in
-    let b3 = bind_some (list_at at) (λ (levels : List ℕ × List Lexeme). behind (is_word (codes "materials")) levels.1 >>= λ here. list_at here >>= λ numbers. if_empty numbers.1 (task_of names name.0 levels.0 numbers.0)) r b2.2 in
+    let b3 = bind_some (list_at at) (λ (levels : List ℕ × List Lexeme). behind (is_word (codes "materials")) levels.1 >>= λ here. last_list_at here >>= λ numbers. Some (task_of names name.0 levels.0 numbers)) r b2.2 in
     let levels = b3.0 in
-    let b4 = bind_some (behind (is_word (codes "materials")) levels.1) (λ (here : List Lexeme). list_at here >>= λ numbers. if_empty numbers.1 (task_of names name.0 levels.0 numbers.0)) r b3.2 in
+    let b4 = bind_some (behind (is_word (codes "materials")) levels.1) (λ (here : List Lexeme). last_list_at here >>= λ numbers. Some (task_of names name.0 levels.0 numbers)) r b3.2 in
     let here = b4.0 in
-    let b5 = bind_some (list_at here) (λ (numbers : List ℕ × List Lexeme). if_empty numbers.1 (task_of names name.0 levels.0 numbers.0)) r b4.2 in
+    let b5 = bind_some (last_list_at here) (λ (numbers : List ℕ). Some (task_of names name.0 levels.0 numbers)) r b4.2 in
     let found = b5.0 in
-    let q = if_empty_some found.1 (task_of names name.0 levels.0 found.0) r b5.2 in
+    let is : task_of names name.0 levels.0 found ≡ r = cc (b5.2) in
     let n = first_name ts name b1.1 in
     let wl = behind_word_some (codes "levels") name.1 at b2.1 in
     let ll = list_some at levels b3.1 in
     let wm = behind_word_some (codes "materials") levels.1 here b4.1 in
-    let lm = list_some here found b5.1 in
-    let here_is : here ≡ map number found.0 = lm.0 ∙ ap (λ (w : List Lexeme). map number found.0 ++ w) q.0 ∙ append-nil (map number found.0) in
-    let at_is : at ≡ map number levels.0 ++ (word (codes "materials") ∷ map number found.0) =
-    ll.0 ∙ ap (λ (w : List Lexeme). map number levels.0 ++ w) (wm ∙ ap (λ (w : List Lexeme). word (codes "materials") ∷ w) here_is) in
-    let phrase = word name.0 ∷ word (codes "levels") ∷ (map number levels.0 ++ (word (codes "materials") ∷ map number found.0)) in
+    let lm = last_list_some here found b5.1 in
+    let at_is : at ≡ map number levels.0 ++ (word (codes "materials") ∷ map number found) =
+    ll.0 ∙ ap (λ (w : List Lexeme). map number levels.0 ++ w) (wm ∙ ap (λ (w : List Lexeme). word (codes "materials") ∷ w) lm.0) in
+    let phrase = word name.0 ∷ word (codes "levels") ∷ (map number levels.0 ++ (word (codes "materials") ∷ map number found)) in
     let tokens : ts ≡ phrase = n.0 ∙ ap (λ (w : List Lexeme). word name.0 ∷ w) (wl ∙ ap (λ (w : List Lexeme). word (codes "levels") ∷ w) at_is) in
-    restated (word (codes "task")) phrase ts names (task_of names name.0 levels.0 found.0) r tokens q.1 (task names name.0 levels.0 found.0 n.1 ll.1 lm.1)
+    restated (word (codes "task")) phrase ts names (task_of names name.0 levels.0 found) r tokens is (task names name.0 levels.0 found n.1 ll.1 lm.1)
 
 requirement_some : (names : Words) (ts : List Lexeme) (r : Stated) → requirement_at names ts ≡ Some r → Says (word (codes "requires") ∷ ts) names r
 unfolding requirement_at
@@ -451,37 +440,25 @@ requirement_some names ts r e =
     restated (word (codes "requires")) (t.0 ∷ store.1) ts names (stated (statement.Require store.0 m.0.0) m.0.1) r t.1 m.2
     (requirement names m.0.1 t.0 store.0 store.1 m.0.0 t.2 (what_some names store.1 m.0 m.1))
 
-named_some : (names : Words) (ts : List Lexeme) (r : Stated) → named_at names ts ≡ Some r → Says ts names r
-unfolding named_at
-named_some names ts r e =
-    keyword_case (codes "var") (λ rest. var_at names rest) (option_map_or (λ rest. fold_at names rest) (behind (is_word (codes "reduction")) ts) (option_map_or (λ rest. task_at names rest) (behind (is_word (codes "task")) ts) (option_map_or (λ rest. requirement_at names rest) (behind (is_word (codes "requires")) ts) (option_map_or (λ rest. keep_at names rest) (behind (is_word (codes "keep")) ts) None)))) ts r (λ w. Says w names r) e
-    (λ rest h. var_some names rest r h)
-    (λ h. keyword_case (codes "reduction") (λ rest. fold_at names rest) (option_map_or (λ rest. task_at names rest) (behind (is_word (codes "task")) ts) (option_map_or (λ rest. requirement_at names rest) (behind (is_word (codes "requires")) ts) (option_map_or (λ rest. keep_at names rest) (behind (is_word (codes "keep")) ts) None))) ts r (λ w. Says w names r) h
-    (λ rest h. fold_some names rest r h)
-    (λ h. keyword_case (codes "task") (λ rest. task_at names rest) (option_map_or (λ rest. requirement_at names rest) (behind (is_word (codes "requires")) ts) (option_map_or (λ rest. keep_at names rest) (behind (is_word (codes "keep")) ts) None)) ts r (λ w. Says w names r) h
-    (λ rest h. task_some names rest r h)
-    (λ h. keyword_case (codes "requires") (λ rest. requirement_at names rest) (option_map_or (λ rest. keep_at names rest) (behind (is_word (codes "keep")) ts) None) ts r (λ w. Says w names r) h
-    (λ rest h. requirement_some names rest r h)
-    (λ h. keyword_case (codes "keep") (λ rest. keep_at names rest) None ts r (λ w. Says w names r) h
-    (λ rest h. keep_some names rest r h)
-    (λ h. no_more r (Says ts names r) h)))))
-
--- a statement without names, or what follows where there is none
-unnamed_case : (names : Words) (o : Option Statement) (d : Option Stated) (r : Stated) (ts : List Lexeme)
-    → ((s : Statement) → o ≡ Some s → SpellsStatement ts names s names) → (d ≡ Some r → Says ts names r)
-    → option_map_or (λ s. Some (stated s names)) o d ≡ Some r → Says ts names r
-unnamed_case names o d r ts taken other e =
-    elim (branch_some (λ s. Some (stated s names)) o d r e) [
-      | inl b ↦ let is : stated b.0 names ≡ r = cc (b.2) in subst (Says ts names) is (taken b.0 b.1)
-      | inr b ↦ other b.1
-    ]
+said_some : (k : StatementKind) (names : Words) (ts : List Lexeme) (r : Stated) → said_at k names ts ≡ Some r → Says (word (first_word k) ∷ ts) names r
+unfolding said_at first_word
+said_some kind.Var names ts r e = var_some names ts r e
+said_some kind.Reduction names ts r e = fold_some names ts r e
+said_some kind.Task names ts r e = task_some names ts r e
+said_some kind.Require names ts r e = requirement_some names ts r e
+said_some kind.Keep names ts r e = keep_some names ts r e
+said_some k names ts r e =
+    let m = map_some (λ (s : Statement). stated s names) (unnamed_at k ts) r e in
+    subst (Says (word (first_word k) ∷ ts) names) m.2 (unnamed_some names k ts m.0 m.1)
 
 pub statement_some : (names : Words) (ts : List Lexeme) (r : Stated) → statement_at names ts ≡ Some r → SpellsStatement ts names r.statement r.names
 unfolding statement_at
 statement_some names ts r e =
-    unnamed_case names (setting_at ts) (option_map_or (λ s. Some (stated s names)) (grid_at ts) (option_map_or (λ s. Some (stated s names)) (mark_at ts) (named_at names ts))) r ts (setting_some names ts)
-    (unnamed_case names (grid_at ts) (option_map_or (λ s. Some (stated s names)) (mark_at ts) (named_at names ts)) r ts (grid_some names ts)
-    (unnamed_case names (mark_at ts) (named_at names ts) r ts (mark_some names ts) (named_some names ts r))) e
+    let p = bind_some (first_as statement_kind_of ts) (λ (k : StatementKind × List Lexeme). said_at k.0 names k.1) r e in
+    let k = p.0 in
+    let t = first_as_some statement_kind_of ts k.0 k.1 p.1 in
+    let tokens : ts ≡ word (first_word k.0) ∷ k.1 = t.1 ∙ ap (λ (l : Lexeme). l ∷ k.1) (kind_some t.0 k.0 t.2) in
+    subst (λ (w : List Lexeme). Says w names r) (sym tokens) (said_some k.0 names k.1 r p.2)
 
 -- ---- writes
 
@@ -524,13 +501,17 @@ reduced_target_some ts r e =
       free = n.1;
     })
 
+written_so : (t : Lexeme) (kind : WriteKind) → write_of t ≡ Some kind → (name : List ℕ) → SpellsTarget (t ∷ word name ∷ []) name kind
+written_so t kind is = meaning_case Word (λ (l : Lexeme) (k : WriteKind). (name : List ℕ) → SpellsTarget (l ∷ word name ∷ []) name k) write_words t kind is (computes, (modifies, tt))
+
 pub target_some : (ts : List Lexeme) (r : List ℕ × WriteKind × List Lexeme) → target_at ts ≡ Some r → TakesTarget ts r
 unfolding target_at
 target_some ts r e =
-    keyword_case (codes "computes") (λ rest. named_target_at write.Computes rest) (option_map_or (λ rest. named_target_at write.Modifies rest) (behind (is_word (codes "modifies")) ts) (option_map_or (λ rest. reduced_target_at rest) (behind (is_word (codes "reduces")) ts) None)) ts r (λ w. TakesTarget w r) e
-    (λ rest h. named_target_some (word (codes "computes")) write.Computes computes rest r h)
-    (λ h. keyword_case (codes "modifies") (λ rest. named_target_at write.Modifies rest) (option_map_or (λ rest. reduced_target_at rest) (behind (is_word (codes "reduces")) ts) None) ts r (λ w. TakesTarget w r) h
-    (λ rest h. named_target_some (word (codes "modifies")) write.Modifies modifies rest r h)
-    (λ h. keyword_case (codes "reduces") (λ rest. reduced_target_at rest) None ts r (λ w. TakesTarget w r) h
-    (λ rest h. reduced_target_some rest r h)
-    (λ h. no_more r (TakesTarget ts r) h)))
+    elim (branch_some (λ (kind : WriteKind × List Lexeme). named_target_at kind.0 kind.1) (first_as write_of ts) (behind (is_word (codes "reduces")) ts >>= λ rest. reduced_target_at rest) r e) [
+      | inl b ↦
+          let t = first_as_some write_of ts b.0.0 b.0.1 b.1 in
+          subst (λ (w : List Lexeme). TakesTarget w r) (sym t.1) (named_target_some t.0 b.0.0 (written_so t.0 b.0.0 t.2) b.0.1 r b.2)
+      | inr b ↦
+          let p = bind_some (behind (is_word (codes "reduces")) ts) (λ (rest : List Lexeme). reduced_target_at rest) r b.1 in
+          subst (λ (w : List Lexeme). TakesTarget w r) (sym (behind_word_some (codes "reduces") ts p.0 p.1)) (reduced_target_some p.0 r p.2)
+    ]

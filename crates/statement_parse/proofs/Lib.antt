@@ -3,4 +3,5 @@ pub mod Found
 pub mod Ends
 pub mod Again
 pub mod Once
+pub mod Judged
 pub mod Forms

@@ -6,6 +6,7 @@ use Rattle.uts_lex.specs.Names.{number_of, with_name}
 use Rattle.kernel_ast.specs.declared.expression.Expr.{Expr}
 use Rattle.kernel_parse.specs.Signs.{sign}
 use Rattle.kernel_parse.specs.Grammar.{Words, SpellsExpression}
+use Rattle.kernel_parse.specs.Reading.{Gives}
 use Rattle.problem_types.specs.declared.problem.WriteKind.{WriteKind}
 use Rattle.statement_parse.specs.declared.fault.StatementFault.{StatementFault}
 use Rattle.statement_parse.specs.declared.fault.StatementFault.TheVariants as faults
@@ -13,7 +14,7 @@ use Rattle.statement_parse.specs.declared.statement.Statement.{Statement}
 use Rattle.statement_parse.specs.declared.statement.Statement.TheVariants as statement
 use Rattle.statement_parse.specs.Grammar.{SpellsStatement, writes}
 use Rattle.statement_parse.specs.Laws.{OneStatement}
-use Rattle.statement_parse.specs.Reading.{Gives, Stated, stated, statement_at, target_at, IsWritten}
+use Rattle.statement_parse.specs.Reading.{Stated, stated, statement_at, target_at, IsWritten}
 use Rattle.statement_parse.proofs.Found.{statement_some, target_some}
 use Rattle.statement_parse.proofs.Again.{Reads, plainly, written, statement_again}
 
@@ -92,17 +93,17 @@ pub write_found : (names after : Words) (ts us : List Lexeme) (name : List ℕ) 
 write_found names after ts us name kind (Ok s) some w = write_spelled names after ts us name kind s some w
 write_found names after ts us name kind (Err fault) some w = tt
 
-pub found : (names after : Words) (ts : List Lexeme) (r : Result Statement StatementFault) → Gives (λ s. stated s after) r (statement_at names ts)
+pub found : (names after : Words) (ts : List Lexeme) (r : Result Statement StatementFault) → Gives faults.NoMemory (λ s. stated s after) r (statement_at names ts)
     → IfOk r (λ s. SpellsStatement ts names s after)
 found names after ts (Ok s) gives = spelled_plainly names after ts s gives
 found names after ts (Err fault) gives = tt
 
-none_given : {X Y : Type 0} (view : X → Y) (read : Option Y) (r : Result X StatementFault) → Gives view r read → r ≡ Err faults.BadStatement → read ≡ None
+none_given : {X Y : Type 0} (view : X → Y) (read : Option Y) (r : Result X StatementFault) → Gives faults.NoMemory view r read → r ≡ Err faults.BadStatement → read ≡ None
 none_given view read (Ok x) gives is = absurd cc
-none_given view read (Err faults.BadStatement) gives is = gives
+none_given view read (Err faults.BadStatement) gives is = gives (λ memory. absurd cc)
 none_given view read (Err faults.NoMemory) gives is = absurd cc
 
 pub not_found : (names after : Words) (ts : List Lexeme) (r : Result Statement StatementFault) → target_at ts ≡ None
-    → Gives (λ s. stated s after) r (statement_at names ts) → r ≡ Err faults.BadStatement
+    → Gives faults.NoMemory (λ s. stated s after) r (statement_at names ts) → r ≡ Err faults.BadStatement
     → (s : Statement) (after : Words) → SpellsStatement ts names s after → ⊥
 not_found names after ts r none gives is = refused names ts none (none_given (λ s. stated s after) (statement_at names ts) r gives is)

@@ -1,5 +1,5 @@
 -- What holds of each statement that tokens spell.
-use Rattle.std.specs.Prelude.{◌≡◌, ◌+◌, ◌<◌, ◌≤◌, ◌^◌, ℕ, List, length}
+use Rattle.std.specs.Prelude.{◌≡◌, ◌⊎◌, ◌+◌, ◌<◌, ◌≤◌, ◌^◌, ℕ, List, length}
 use Rattle.uts_lex.specs.Lexemes.{Lexeme}
 use Rattle.kernel_parse.specs.Grammar.{Words}
 use Rattle.kernel_parse.specs.Source.{Extends}
@@ -21,3 +21,9 @@ FewNewNames = (tokens : List Lexeme) (names after : Words) (s : Statement) → S
 abbrev pub StatementsAreInForm : Type 0
 StatementsAreInForm = (tokens : List Lexeme) (names after : Words) (s : Statement) (known : ℕ) → SpellsStatement tokens names s after
     → length after ≤ known → length tokens < 2 ^ 31 → IsStatementInForm known s
+
+-- tokens are some statement, or they are none
+abbrev pub StatementsAreJudged : Type 0
+StatementsAreJudged = (tokens : List Lexeme) (names : Words)
+    → ((s : Statement) × (after : Words) × SpellsStatement tokens names s after)
+    ⊎ ((s : Statement) (after : Words) → SpellsStatement tokens names s after → ⊥)

@@ -1,5 +1,5 @@
 -- Reading a statement from the left, token by token.
-use Rattle.std.specs.Prelude.{◌≡◌, ℕ, ◌==◌, ℤ, Bool, true, ◌&&◌, List, [], ◌∷◌, ◌++◌, length, Option, Some, None, Result, Ok, Err, nat_lt, nat_le, codes, if◌then◌else◌}
+use Rattle.std.specs.Prelude.{◌≡◌, ℕ, ◌==◌, ℤ, Bool, true, ◌&&◌, List, [], ◌∷◌, ◌++◌, length, Option, Some, None, nat_lt, nat_le, codes, if◌then◌else◌}
 use Rattle.std.specs.Option.{option_map, option_map_or}
 use Rattle.uts_lex.specs.Lexemes.{Lexeme}
 use Rattle.uts_lex.specs.Names.{number_of, with_name}
@@ -16,21 +16,12 @@ use Rattle.problem_types.specs.declared.problem.What.{What}
 use Rattle.problem_types.specs.declared.problem.What.TheVariants as what
 use Rattle.problem_types.specs.declared.problem.WriteKind.{WriteKind}
 use Rattle.problem_types.specs.declared.problem.WriteKind.TheVariants as write
-use Rattle.statement_parse.specs.declared.fault.StatementFault.{StatementFault}
-use Rattle.statement_parse.specs.declared.fault.StatementFault.TheVariants as faults
 use Rattle.statement_parse.specs.declared.statement.Corners.{Corners}
 use Rattle.statement_parse.specs.declared.statement.Statement.{Statement}
 use Rattle.statement_parse.specs.declared.statement.Statement.TheVariants as statement
-use Rattle.statement_parse.specs.Tables.{centring_of, fold_of, ghosts_of}
-
--- What a function returned, seen by view, is what reading gives, unless memory ran out.
-abbrev pub Fails : {Y : Type 0} → StatementFault → Option Y → Type 0
-Fails faults.NoMemory read = Unit {0}
-Fails faults.BadStatement read = read ≡ None
-
-abbrev pub Gives : {X Y : Type 0} → (X → Y) → Result X StatementFault → Option Y → Type 0
-Gives view (Ok x) read = read ≡ Some (view x)
-Gives view (Err e) read = Fails e read
+use Rattle.statement_parse.specs.declared.statement.StatementKind.{StatementKind}
+use Rattle.statement_parse.specs.declared.statement.StatementKind.TheVariants as kind
+use Rattle.statement_parse.specs.Tables.{statement_kind_of, centring_of, fold_of, ghosts_of, write_of}
 
 -- a statement, and the words behind it
 pub record Stated : Type 0 where
@@ -91,36 +82,34 @@ if_list r = if is_list r.0 then Some r else None
 unfoldable pub list_at : List Lexeme → Option (List ℕ × List Lexeme)
 list_at ts = if_list (numbers_from [] ts)
 
+-- the same, and nothing behind it
+unfoldable pub last_list_at : List Lexeme → Option (List ℕ)
+last_list_at ts = list_at ts >>= λ list. if_empty list.1 list.0
+
 -- ---- statements without names
 
-abbrev pub version_of : ℕ → Option Statement
-version_of n = if n == 1 then Some (statement.Version n) else None
+-- the version of the language
+unfoldable pub version_at : List Lexeme → Option ℕ
+version_at ts = number_at ts >>= λ n. if n == 1 then Some n else None
 
-abbrev pub level_at : List Lexeme → Option Statement
-level_at ts = behind (is_word (codes "ratio")) ts >>= λ rest. option_map (λ n. statement.Level n) (number_at rest)
+-- the refinement ratio of a level
+unfoldable pub ratio_at : List Lexeme → Option ℕ
+ratio_at ts = behind (is_word (codes "ratio")) ts >>= λ rest. number_at rest
 
-unfoldable pub setting_at : List Lexeme → Option Statement
-setting_at ts =
-    option_map_or (λ rest. number_at rest >>= λ n. version_of n) (behind (is_word (codes "problem")) ts)
-    (option_map_or (λ rest. option_map (λ n. statement.Steps n) (number_at rest)) (behind (is_word (codes "steps")) ts)
-    (option_map_or (λ rest. option_map (λ n. statement.Dump n) (some_number_at rest)) (behind (is_word (codes "dump")) ts)
-    (option_map_or (λ rest. option_map (λ n. statement.Ghost n) (number_at rest)) (behind (is_word (codes "ghost")) ts)
-    (option_map_or (λ rest. option_map (λ n. statement.Materials n) (some_number_at rest)) (behind (is_word (codes "materials")) ts)
-    None))))
-
-unfoldable pub grid_at : List Lexeme → Option Statement
-grid_at ts =
-    option_map_or (λ rest. level_at rest) (behind (is_word (codes "level")) ts)
-    (option_map_or (λ rest. option_map (λ c. statement.Box c) (corners_at rest)) (behind (is_word (codes "box")) ts)
-    (option_map_or (λ rest. option_map (λ c. statement.Patch c) (corners_at rest)) (behind (is_word (codes "patch")) ts)
-    None))
-
-unfoldable pub mark_at : List Lexeme → Option Statement
-mark_at ts =
-    option_map_or (λ rest. if_empty rest statement.Init) (behind (is_word (codes "init")) ts)
-    (option_map_or (λ rest. if_empty rest statement.Timestep) (behind (is_word (codes "timestep")) ts)
-    (option_map_or (λ rest. if_empty rest statement.End) (behind (is_word (codes "end")) ts)
-    None))
+-- what stands behind the first word of a statement without names
+unfoldable pub unnamed_at : StatementKind → List Lexeme → Option Statement
+unnamed_at kind.Version ts = option_map (λ n. statement.Version n) (version_at ts)
+unnamed_at kind.Steps ts = option_map (λ n. statement.Steps n) (number_at ts)
+unnamed_at kind.Dump ts = option_map (λ n. statement.Dump n) (some_number_at ts)
+unnamed_at kind.Ghost ts = option_map (λ n. statement.Ghost n) (number_at ts)
+unnamed_at kind.Materials ts = option_map (λ n. statement.Materials n) (some_number_at ts)
+unnamed_at kind.Level ts = option_map (λ n. statement.Level n) (ratio_at ts)
+unnamed_at kind.Box ts = option_map (λ c. statement.Box c) (corners_at ts)
+unnamed_at kind.Patch ts = option_map (λ c. statement.Patch c) (corners_at ts)
+unnamed_at kind.Init ts = if_empty ts statement.Init
+unnamed_at kind.Timestep ts = if_empty ts statement.Timestep
+unnamed_at kind.End ts = if_empty ts statement.End
+unnamed_at kind ts = None
 
 -- ---- statements with a name
 
@@ -162,8 +151,8 @@ task_at names ts = do
   at ← behind (is_word (codes "levels")) name.1
   levels ← list_at at
   here ← behind (is_word (codes "materials")) levels.1
-  materials ← list_at here
-  if_empty materials.1 (stated (statement.Task (number_of names name.0) levels.0 materials.0) (with_name names name.0))
+  materials ← last_list_at here
+  Some (stated (statement.Task (number_of names name.0) levels.0 materials) (with_name names name.0))
 
 -- ---- requirements
 
@@ -202,21 +191,17 @@ requirement_at names ts =
 
 -- ---- all but writes
 
-unfoldable pub named_at : Words → List Lexeme → Option Stated
-named_at names ts =
-    option_map_or (λ rest. var_at names rest) (behind (is_word (codes "var")) ts)
-    (option_map_or (λ rest. fold_at names rest) (behind (is_word (codes "reduction")) ts)
-    (option_map_or (λ rest. task_at names rest) (behind (is_word (codes "task")) ts)
-    (option_map_or (λ rest. requirement_at names rest) (behind (is_word (codes "requires")) ts)
-    (option_map_or (λ rest. keep_at names rest) (behind (is_word (codes "keep")) ts)
-    None))))
+-- what stands behind the first word of a statement
+unfoldable pub said_at : StatementKind → Words → List Lexeme → Option Stated
+said_at kind.Var names ts = var_at names ts
+said_at kind.Reduction names ts = fold_at names ts
+said_at kind.Task names ts = task_at names ts
+said_at kind.Require names ts = requirement_at names ts
+said_at kind.Keep names ts = keep_at names ts
+said_at kind names ts = option_map (λ s. stated s names) (unnamed_at kind ts)
 
 unfoldable pub statement_at : Words → List Lexeme → Option Stated
-statement_at names ts =
-    option_map_or (λ s. Some (stated s names)) (setting_at ts)
-    (option_map_or (λ s. Some (stated s names)) (grid_at ts)
-    (option_map_or (λ s. Some (stated s names)) (mark_at ts)
-    (named_at names ts)))
+statement_at names ts = first_as statement_kind_of ts >>= λ kind. said_at kind.0 names kind.1
 
 -- ---- writes
 
@@ -233,10 +218,8 @@ reduced_target_at ts = do
 -- what is written, and the tokens behind the `=`
 unfoldable pub target_at : List Lexeme → Option (List ℕ × WriteKind × List Lexeme)
 target_at ts =
-    option_map_or (λ rest. named_target_at write.Computes rest) (behind (is_word (codes "computes")) ts)
-    (option_map_or (λ rest. named_target_at write.Modifies rest) (behind (is_word (codes "modifies")) ts)
-    (option_map_or (λ rest. reduced_target_at rest) (behind (is_word (codes "reduces")) ts)
-    None))
+    option_map_or (λ kind. named_target_at kind.0 kind.1) (first_as write_of ts)
+    (behind (is_word (codes "reduces")) ts >>= λ rest. reduced_target_at rest)
 
 -- the statement writes what the tokens spell
 pub record IsWritten (ts : List Lexeme) (names : Words) (kind : WriteKind) (name : List ℕ) (s : Statement) (after : Words) : Type 0 where

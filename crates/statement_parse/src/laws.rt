@@ -1,7 +1,7 @@
 //! What holds of the grammar, each law as the contract of a function that does nothing.
-ghost use Rattle.statement_parse.specs.Laws.{OneStatement, FewNewNames, StatementsAreInForm};
+ghost use Rattle.statement_parse.specs.Laws.{OneStatement, FewNewNames, StatementsAreInForm, StatementsAreJudged};
 
-use kernel_parse::{few_new_words, one_reading, spelled_in_form};
+use kernel_parse::{expressions_are_judged, few_new_words, one_reading, spelled_in_form};
 
 /// Tokens are one statement at most, and name the same words.
 pub fn one_statement()
@@ -23,4 +23,11 @@ pub fn statements_are_in_form()
 {
     spelled_in_form();
     few_new_words();
+}
+
+/// Tokens are some statement, or they are none.
+pub fn statements_are_judged()
+    ensures { StatementsAreJudged }
+{
+    expressions_are_judged();
 }

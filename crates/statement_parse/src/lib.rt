@@ -13,6 +13,6 @@ mod words;
 mod writes;
 
 pub use fault::StatementFault;
-pub use laws::{few_new_names, one_statement, statements_are_in_form};
+pub use laws::{few_new_names, one_statement, statements_are_in_form, statements_are_judged};
 pub use parse::parse_statement;
 pub use statement::{Corners, Statement, StatementKind};

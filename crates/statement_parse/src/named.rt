@@ -1,97 +1,50 @@
 //! Statements from tokens, all but those that write.
 ghost use Rattle.std.specs.Prelude.{◌≡◌, All};
+ghost use Rattle.kernel_parse.specs.Reading.{Gives};
 ghost use Rattle.kernel_parse.specs.Source.{LiesIn, CanRead, Extends, lexemes};
-ghost use Rattle.statement_parse.specs.Reading.{Gives, stated, setting_at, grid_at, mark_at, var_at, fold_at, keep_at, task_at, coarse_at, fine_at, own_at, what_at, requirement_at, named_at, statement_at};
+ghost use Rattle.statement_parse.specs.Reading.{stated, unnamed_at, var_at, fold_at, keep_at, task_at, coarse_at, fine_at, own_at, what_at, requirement_at, statement_at};
 
 use crate::fault::StatementFault;
-use crate::pieces::{corners, fold_parts, layered, list, name, number, some_number, var_parts};
-use crate::statement::Statement;
-use kernel_parse::{behind_word, split_name, split_store};
+use crate::pieces::{
+    at_end, corners, fold_parts, last_list, layered, list, name, number, ratio, some_number,
+    var_parts, version,
+};
+use crate::statement::{Statement, StatementKind};
+use crate::words::STATEMENTS;
+use kernel_parse::{behind_word, split_meaning, split_name, split_store};
 use problem_types::What;
 use std::alloc::Global;
 use uts_lex::{Names, Token};
 
-/// A statement about the whole problem.
-#[tactic(auto, unfolding(crate::specs::Reading::setting_at))]
-fn setting(text: &[u8], tokens: &[Token]) -> Option<Statement>
+/// A statement of this kind without names, behind its first word.
+#[tactic(auto, unfolding(crate::specs::Reading::unnamed_at))]
+fn unnamed(text: &[u8], kind: StatementKind, tokens: &[Token]) -> Option<Statement>
     requires { All (LiesIn text.now) tokens.now }
-    ensures { result ≡ setting_at (lexemes text.now tokens.now) }
+    ensures { result ≡ unnamed_at kind (lexemes text.now tokens.now) }
 {
-    if let Some(rest) = behind_word(text, tokens, b"problem") {
-        let n = number(text, rest)?;
-        return if n == 1 {
-            Some(Statement::Version(n))
-        } else {
-            None
-        };
-    }
-    if let Some(rest) = behind_word(text, tokens, b"steps") {
-        return Some(Statement::Steps(number(text, rest)?));
-    }
-    if let Some(rest) = behind_word(text, tokens, b"dump") {
-        return Some(Statement::Dump(some_number(text, rest)?));
-    }
-    if let Some(rest) = behind_word(text, tokens, b"ghost") {
-        return Some(Statement::Ghost(number(text, rest)?));
-    }
-    let rest = behind_word(text, tokens, b"materials")?;
-    Some(Statement::Materials(some_number(text, rest)?))
-}
-
-/// A statement about the levels of the grid.
-#[tactic(auto, unfolding(crate::specs::Reading::grid_at))]
-fn grid(text: &[u8], tokens: &[Token]) -> Option<Statement>
-    requires { All (LiesIn text.now) tokens.now }
-    ensures { result ≡ grid_at (lexemes text.now tokens.now) }
-{
-    if let Some(rest) = behind_word(text, tokens, b"level") {
-        let rest = behind_word(text, rest, b"ratio")?;
-        return Some(Statement::Level(number(text, rest)?));
-    }
-    if let Some(rest) = behind_word(text, tokens, b"box") {
-        return Some(Statement::Box(corners(text, rest)?));
-    }
-    let rest = behind_word(text, tokens, b"patch")?;
-    Some(Statement::Patch(corners(text, rest)?))
-}
-
-/// A word that stands alone.
-#[tactic(auto, unfolding(crate::specs::Reading::mark_at))]
-fn mark(text: &[u8], tokens: &[Token]) -> Option<Statement>
-    requires { All (LiesIn text.now) tokens.now }
-    ensures { result ≡ mark_at (lexemes text.now tokens.now) }
-{
-    if let Some(rest) = behind_word(text, tokens, b"init") {
-        return if rest.is_empty() {
-            Some(Statement::Init)
-        } else {
-            None
-        };
-    }
-    if let Some(rest) = behind_word(text, tokens, b"timestep") {
-        return if rest.is_empty() {
-            Some(Statement::Timestep)
-        } else {
-            None
-        };
-    }
-    let rest = behind_word(text, tokens, b"end")?;
-    if rest.is_empty() {
-        Some(Statement::End)
-    } else {
-        None
+    match kind {
+        StatementKind::Version => Some(Statement::Version(version(text, tokens)?)),
+        StatementKind::Steps => Some(Statement::Steps(number(text, tokens)?)),
+        StatementKind::Dump => Some(Statement::Dump(some_number(text, tokens)?)),
+        StatementKind::Ghost => Some(Statement::Ghost(number(text, tokens)?)),
+        StatementKind::Materials => Some(Statement::Materials(some_number(text, tokens)?)),
+        StatementKind::Level => Some(Statement::Level(ratio(text, tokens)?)),
+        StatementKind::Box => Some(Statement::Box(corners(text, tokens)?)),
+        StatementKind::Patch => Some(Statement::Patch(corners(text, tokens)?)),
+        StatementKind::Init => at_end(text, tokens, Statement::Init),
+        StatementKind::Timestep => at_end(text, tokens, Statement::Timestep),
+        StatementKind::End => at_end(text, tokens, Statement::End),
+        _ => None,
     }
 }
 
 #[tactic(auto, using(kernel_parse::specs::SourceLaws::kept_words), unfolding(crate::specs::Reading::var_at))]
 fn var(text: &[u8], tokens: &[Token], names: &mut Names) -> Result<Statement, StatementFault>
     requires { CanRead text.now names.old tokens.now }
-    ensures read { Gives (λ s. stated s names.new) result (var_at names.old (lexemes text.now tokens.now)) }
+    ensures read { Gives StatementFault.NoMemory (λ s. stated s names.new) result (var_at names.old (lexemes text.now tokens.now)) }
     ensures kept { Extends names.old names.new }
 {
-    let Some((name, centring, outside)) = var_parts(text, tokens) else {
-        return Err(StatementFault::BadStatement);
-    };
+    let (name, centring, outside) = var_parts(text, tokens).ok_or(StatementFault::BadStatement)?;
     let name = names.number(name)?;
     Ok(Statement::Var {
         name,
@@ -103,12 +56,10 @@ fn var(text: &[u8], tokens: &[Token], names: &mut Names) -> Result<Statement, St
 #[tactic(auto, using(kernel_parse::specs::SourceLaws::kept_words), unfolding(crate::specs::Reading::fold_at))]
 fn reduction(text: &[u8], tokens: &[Token], names: &mut Names) -> Result<Statement, StatementFault>
     requires { CanRead text.now names.old tokens.now }
-    ensures read { Gives (λ s. stated s names.new) result (fold_at names.old (lexemes text.now tokens.now)) }
+    ensures read { Gives StatementFault.NoMemory (λ s. stated s names.new) result (fold_at names.old (lexemes text.now tokens.now)) }
     ensures kept { Extends names.old names.new }
 {
-    let Some((name, fold)) = fold_parts(text, tokens) else {
-        return Err(StatementFault::BadStatement);
-    };
+    let (name, fold) = fold_parts(text, tokens).ok_or(StatementFault::BadStatement)?;
     let name = names.number(name)?;
     Ok(Statement::Reduction { name, fold })
 }
@@ -116,12 +67,10 @@ fn reduction(text: &[u8], tokens: &[Token], names: &mut Names) -> Result<Stateme
 #[tactic(auto, using(kernel_parse::specs::SourceLaws::kept_words), unfolding(crate::specs::Reading::keep_at))]
 fn keep(text: &[u8], tokens: &[Token], names: &mut Names) -> Result<Statement, StatementFault>
     requires { CanRead text.now names.old tokens.now }
-    ensures read { Gives (λ s. stated s names.new) result (keep_at names.old (lexemes text.now tokens.now)) }
+    ensures read { Gives StatementFault.NoMemory (λ s. stated s names.new) result (keep_at names.old (lexemes text.now tokens.now)) }
     ensures kept { Extends names.old names.new }
 {
-    let Some(name) = name(text, tokens) else {
-        return Err(StatementFault::BadStatement);
-    };
+    let name = name(text, tokens).ok_or(StatementFault::BadStatement)?;
     Ok(Statement::Keep(names.number(name)?))
 }
 
@@ -133,23 +82,14 @@ fn task(
     names: &mut Names,
 ) -> Result<Statement, StatementFault>
     requires { CanRead text.now names.old tokens.now }
-    ensures read { Gives (λ s. stated s names.new) result (task_at names.old (lexemes text.now tokens.now)) }
+    ensures read { Gives StatementFault.NoMemory (λ s. stated s names.new) result (task_at names.old (lexemes text.now tokens.now)) }
     ensures kept { Extends names.old names.new }
 {
-    let Some((name, rest)) = split_name(text, tokens) else {
-        return Err(StatementFault::BadStatement);
-    };
-    let Some(rest) = behind_word(text, rest, b"levels") else {
-        return Err(StatementFault::BadStatement);
-    };
+    let (name, rest) = split_name(text, tokens).ok_or(StatementFault::BadStatement)?;
+    let rest = behind_word(text, rest, b"levels").ok_or(StatementFault::BadStatement)?;
     let (levels, rest) = list(alloc, text, rest)?;
-    let Some(rest) = behind_word(text, rest, b"materials") else {
-        return Err(StatementFault::BadStatement);
-    };
-    let (materials, rest) = list(alloc, text, rest)?;
-    if !rest.is_empty() {
-        return Err(StatementFault::BadStatement);
-    }
+    let rest = behind_word(text, rest, b"materials").ok_or(StatementFault::BadStatement)?;
+    let materials = last_list(alloc, text, rest)?;
     let name = names.number(name)?;
     Ok(Statement::Task {
         name,
@@ -162,12 +102,10 @@ fn task(
 #[tactic(auto, using(kernel_parse::specs::SourceLaws::kept_words), unfolding(crate::specs::Reading::coarse_at))]
 fn coarse(text: &[u8], tokens: &[Token], names: &mut Names) -> Result<What, StatementFault>
     requires { CanRead text.now names.old tokens.now }
-    ensures read { Gives (λ w. (w, names.new)) result (coarse_at names.old (lexemes text.now tokens.now)) }
+    ensures read { Gives StatementFault.NoMemory (λ w. (w, names.new)) result (coarse_at names.old (lexemes text.now tokens.now)) }
     ensures kept { Extends names.old names.new }
 {
-    let Some((name, layers)) = layered(text, tokens) else {
-        return Err(StatementFault::BadStatement);
-    };
+    let (name, layers) = layered(text, tokens).ok_or(StatementFault::BadStatement)?;
     let var = names.number(name)?;
     Ok(What::Coarse { var, layers })
 }
@@ -176,12 +114,10 @@ fn coarse(text: &[u8], tokens: &[Token], names: &mut Names) -> Result<What, Stat
 #[tactic(auto, using(kernel_parse::specs::SourceLaws::kept_words), unfolding(crate::specs::Reading::fine_at))]
 fn fine(text: &[u8], tokens: &[Token], names: &mut Names) -> Result<What, StatementFault>
     requires { CanRead text.now names.old tokens.now }
-    ensures read { Gives (λ w. (w, names.new)) result (fine_at names.old (lexemes text.now tokens.now)) }
+    ensures read { Gives StatementFault.NoMemory (λ w. (w, names.new)) result (fine_at names.old (lexemes text.now tokens.now)) }
     ensures kept { Extends names.old names.new }
 {
-    let Some(name) = name(text, tokens) else {
-        return Err(StatementFault::BadStatement);
-    };
+    let name = name(text, tokens).ok_or(StatementFault::BadStatement)?;
     let var = names.number(name)?;
     Ok(What::Fine { var })
 }
@@ -190,16 +126,14 @@ fn fine(text: &[u8], tokens: &[Token], names: &mut Names) -> Result<What, Statem
 #[tactic(auto, using(kernel_parse::specs::SourceLaws::kept_words), unfolding(crate::specs::Reading::own_at))]
 fn own(text: &[u8], tokens: &[Token], names: &mut Names) -> Result<What, StatementFault>
     requires { CanRead text.now names.old tokens.now }
-    ensures read { Gives (λ w. (w, names.new)) result (own_at names.old (lexemes text.now tokens.now)) }
+    ensures read { Gives StatementFault.NoMemory (λ w. (w, names.new)) result (own_at names.old (lexemes text.now tokens.now)) }
     ensures kept { Extends names.old names.new }
 {
     if let Some(name) = name(text, tokens) {
         let name = names.number(name)?;
         return Ok(What::Number { name });
     }
-    let Some((name, layers)) = layered(text, tokens) else {
-        return Err(StatementFault::BadStatement);
-    };
+    let (name, layers) = layered(text, tokens).ok_or(StatementFault::BadStatement)?;
     let var = names.number(name)?;
     Ok(What::Same { var, layers })
 }
@@ -207,7 +141,7 @@ fn own(text: &[u8], tokens: &[Token], names: &mut Names) -> Result<What, Stateme
 #[tactic(auto, unfolding(crate::specs::Reading::what_at))]
 fn what(text: &[u8], tokens: &[Token], names: &mut Names) -> Result<What, StatementFault>
     requires { CanRead text.now names.old tokens.now }
-    ensures read { Gives (λ w. (w, names.new)) result (what_at names.old (lexemes text.now tokens.now)) }
+    ensures read { Gives StatementFault.NoMemory (λ w. (w, names.new)) result (what_at names.old (lexemes text.now tokens.now)) }
     ensures kept { Extends names.old names.new }
 {
     if let Some(rest) = behind_word(text, tokens, b"coarse") {
@@ -226,48 +160,16 @@ fn requirement(
     names: &mut Names,
 ) -> Result<Statement, StatementFault>
     requires { CanRead text.now names.old tokens.now }
-    ensures read { Gives (λ s. stated s names.new) result (requirement_at names.old (lexemes text.now tokens.now)) }
+    ensures read { Gives StatementFault.NoMemory (λ s. stated s names.new) result (requirement_at names.old (lexemes text.now tokens.now)) }
     ensures kept { Extends names.old names.new }
 {
-    let Some((store, rest)) = split_store(text, tokens) else {
-        return Err(StatementFault::BadStatement);
-    };
+    let (store, rest) = split_store(text, tokens).ok_or(StatementFault::BadStatement)?;
     let what = what(text, rest, names)?;
     Ok(Statement::Require { store, what })
 }
 
-/// A statement with a name.
-#[tactic(auto, using(kernel_parse::specs::SourceLaws::kept_words), unfolding(crate::specs::Reading::named_at))]
-fn named(
-    alloc: Global,
-    text: &[u8],
-    tokens: &[Token],
-    names: &mut Names,
-) -> Result<Statement, StatementFault>
-    requires { CanRead text.now names.old tokens.now }
-    ensures read { Gives (λ s. stated s names.new) result (named_at names.old (lexemes text.now tokens.now)) }
-    ensures kept { Extends names.old names.new }
-{
-    if let Some(rest) = behind_word(text, tokens, b"var") {
-        return var(text, rest, names);
-    }
-    if let Some(rest) = behind_word(text, tokens, b"reduction") {
-        return reduction(text, rest, names);
-    }
-    if let Some(rest) = behind_word(text, tokens, b"task") {
-        return task(alloc, text, rest, names);
-    }
-    if let Some(rest) = behind_word(text, tokens, b"requires") {
-        return requirement(text, rest, names);
-    }
-    if let Some(rest) = behind_word(text, tokens, b"keep") {
-        return keep(text, rest, names);
-    }
-    Err(StatementFault::BadStatement)
-}
-
 /// A statement that does not write.
-#[tactic(auto, using(kernel_parse::specs::SourceLaws::kept_words), unfolding(crate::specs::Reading::statement_at))]
+#[tactic(auto, using(kernel_parse::specs::SourceLaws::kept_words), unfolding(crate::specs::Reading::statement_at, crate::specs::Reading::said_at))]
 pub(crate) fn statement(
     alloc: Global,
     text: &[u8],
@@ -275,17 +177,18 @@ pub(crate) fn statement(
     names: &mut Names,
 ) -> Result<Statement, StatementFault>
     requires { CanRead text.now names.old tokens.now }
-    ensures read { Gives (λ s. stated s names.new) result (statement_at names.old (lexemes text.now tokens.now)) }
+    ensures read { Gives StatementFault.NoMemory (λ s. stated s names.new) result (statement_at names.old (lexemes text.now tokens.now)) }
     ensures kept { Extends names.old names.new }
 {
-    if let Some(statement) = setting(text, tokens) {
-        return Ok(statement);
+    let (kind, rest) = split_meaning(text, tokens, &STATEMENTS).ok_or(
+        StatementFault::BadStatement,
+    )?;
+    match kind {
+        StatementKind::Var => var(text, rest, names),
+        StatementKind::Reduction => reduction(text, rest, names),
+        StatementKind::Task => task(alloc, text, rest, names),
+        StatementKind::Require => requirement(text, rest, names),
+        StatementKind::Keep => keep(text, rest, names),
+        _ => unnamed(text, kind, rest).ok_or(StatementFault::BadStatement),
     }
-    if let Some(statement) = grid(text, tokens) {
-        return Ok(statement);
-    }
-    if let Some(statement) = mark(text, tokens) {
-        return Ok(statement);
-    }
-    named(alloc, text, tokens, names)
 }

@@ -9,8 +9,8 @@ ghost use Rattle.statement_parse.specs.Reading.{target_at, IsWritten};
 
 use crate::fault::StatementFault;
 use crate::statement::Statement;
-use crate::words::split_centring;
-use kernel_parse::{ExprFault, behind_sign, behind_word, parse_expr, split_name};
+use crate::words::{CENTRINGS, WRITES};
+use kernel_parse::{ExprFault, behind_sign, behind_word, parse_expr, split_meaning, split_name};
 use problem_types::WriteKind;
 use std::alloc::Global;
 use uts_lex::{Names, Token};
@@ -25,17 +25,13 @@ pub(crate) fn split_target<'t, 'a>(text: &'t [u8], tokens: &'a [Token]) -> Optio
     ensures read { option_map (λ r. (r.0.now, r.1, lexemes text.now r.2.now)) result ≡ target_at (lexemes text.now tokens.now) }
     ensures rest { IfSome result (λ r. IsBehind text.now tokens.now r.2.now) }
 {
-    if let Some(rest) = behind_word(text, tokens, b"computes") {
+    if let Some((kind, rest)) = split_meaning(text, tokens, &WRITES) {
         let (name, rest) = split_name(text, rest)?;
-        return Some((name, WriteKind::Computes, behind_sign(text, rest, b"=")?));
-    }
-    if let Some(rest) = behind_word(text, tokens, b"modifies") {
-        let (name, rest) = split_name(text, rest)?;
-        return Some((name, WriteKind::Modifies, behind_sign(text, rest, b"=")?));
+        return Some((name, kind, behind_sign(text, rest, b"=")?));
     }
     let rest = behind_word(text, tokens, b"reduces")?;
     let (name, rest) = split_name(text, rest)?;
-    let (centring, rest) = split_centring(text, rest)?;
+    let (centring, rest) = split_meaning(text, rest, &CENTRINGS)?;
     let rest = behind_sign(text, rest, b"=")?;
     Some((name, WriteKind::Reduces(centring), rest))
 }

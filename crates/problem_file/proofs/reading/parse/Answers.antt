@@ -1,4 +1,4 @@
-use Rattle.problem_file.proofs.Answered.{bad_line, found_only, bad_line_only, found_in_form}
+use Rattle.problem_file.proofs.Answered.{bad_line, found_only, bad_line_only, one_answer, found_in_form}
 use Rattle.problem_file.proofs.reading.parse.Goals as goal
 
 pub returns-clause-found_only : goal.returns-clause-found_only
@@ -14,3 +14,8 @@ returns-clause-bad_text c = bad_line c.args.text.now c.read_all.result c.read_al
 pub returns-clause-bad_text_only : goal.returns-clause-bad_text_only
 returns-clause-bad_text_only c =
     bad_line_only c.args.text.now c.one_bad_line.ensures c.no_problem_with_a_bad_line.ensures c.read_all.result c.read_all.ensures.found c.read_all.ensures.bad_text
+
+pub returns-clause-one_answer : goal.returns-clause-one_answer
+returns-clause-one_answer c =
+    one_answer c.args.text.now c.every_text_is_judged.ensures c.one_problem.ensures c.one_bad_line.ensures c.no_problem_with_a_bad_line.ensures
+    c.read_all.result c.read_all.ensures.found c.read_all.ensures.bad_text

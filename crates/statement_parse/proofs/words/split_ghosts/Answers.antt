@@ -1,5 +1,0 @@
-use Rattle.kernel_parse.specs.SourceLaws.{IsBehind_first}
-use Rattle.statement_parse.proofs.words.split_ghosts.Goals as goal
-
-pub returns-clause-rest : goal.returns-clause-rest
-returns-clause-rest c = IsBehind_first _ _ _ _ c.in_ok-first.ensures.cases.0 c.requires
