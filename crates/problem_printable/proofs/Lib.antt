@@ -1,7 +1,7 @@
 pub mod Forms
 pub mod Naming
 pub mod Elements
-pub mod Places
+pub mod Meanings
 pub mod SpelledNames
 pub mod SpelledNumbers
 pub mod Tokens

@@ -7,12 +7,12 @@ use Rattle.uts_lex.specs.Names.{number_of, with_name}
 use Rattle.kernel_ast.specs.declared.expression.Op.{Op}
 use Rattle.kernel_ast.specs.declared.expression.Expr.{Expr}
 use Rattle.kernel_ast.specs.declared.expression.Expr.TheVariants as expr
-use Rattle.kernel_parse.specs.Signs.{word, sign, place_of, is_reserved}
+use Rattle.kernel_parse.specs.Signs.{word, sign, place_of, place_words, is_reserved}
 use Rattle.kernel_parse.specs.Grammar.{Words, SpellsRead, own, coarse, fine, reduction, Form, Spells, one_sum, compared, one_product, added, one_unary, multiplied, one_primary, negated, literal, place, read, grouped, called, selected, SpellsExpression}
 use Rattle.problem_printable.specs.Numbering.{expression_names}
 use Rattle.problem_printable.proofs.Elements.{All-front, All-behind}
 use Rattle.problem_printable.proofs.Forms.{expression_names-Literal, expression_names-X, expression_names-Y, expression_names-Z, expression_names-Level, expression_names-Material, expression_names-Step, expression_names-Read, expression_names-Number, expression_names-Neg, expression_names-Binary, expression_names-Select}
-use Rattle.problem_printable.proofs.Places.{place_case}
+use Rattle.problem_printable.proofs.Meanings.{meaning_case}
 use Rattle.problem_printable.proofs.Naming.{Grows, grows_none, grows_name, grows_both}
 
 -- the tokens are well spelled
@@ -58,8 +58,9 @@ read_named (reduction names at store name is_store free) h =
     along _ _ _ _ (expression_names-Number store _) (named names name [] free (behind_first (sign (codes ".")) (word name ∷ []) h1))
 
 place_named : (names : Words) (at : Lexeme) (e : Expr) → place_of at ≡ Some e → Grows names (expression_names e) names
-place_named names at e is = along _ _ _ _ (place_case at e is (λ e. expression_names e ≡ [])
-    expression_names-X expression_names-Y expression_names-Z expression_names-Level expression_names-Material expression_names-Step) (grows_none names)
+place_named names at e is = along _ _ _ _ (meaning_case (λ e. expression_names e ≡ []) place_words at e is
+    (expression_names-X, (expression_names-Y, (expression_names-Z, (expression_names-Level, (expression_names-Material, (expression_names-Step, tt)))))))
+    (grows_none names)
 
 binary_named : (names between after : Words) (op : Op) (a b : Expr) → Grows names (expression_names a) between
     → Grows between (expression_names b) after → Grows names (expression_names (expr.Binary op a b)) after

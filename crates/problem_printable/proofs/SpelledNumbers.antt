@@ -8,11 +8,11 @@ use Rattle.uts_lex.specs.Lexemes.{Lexeme}
 use Rattle.kernel_ast.specs.declared.expression.Op.{Op}
 use Rattle.kernel_ast.specs.declared.expression.Expr.{Expr}
 use Rattle.kernel_ast.specs.declared.expression.Expr.TheVariants as expr
-use Rattle.kernel_parse.specs.Signs.{place_of}
+use Rattle.kernel_parse.specs.Signs.{place_of, place_words}
 use Rattle.kernel_parse.specs.Grammar.{Words, SpellsSigned, plain, below_zero, SpellsOffset, offset, SpellsRead, own, coarse, fine, reduction, Form, Spells, one_sum, compared, one_product, added, one_unary, multiplied, one_primary, negated, literal, place, read, grouped, called, selected, SpellsExpression}
 use Rattle.problem_printable.specs.Printable.{is_offset, expression_fits}
 use Rattle.problem_printable.proofs.Forms.{expression_fits-Literal, expression_fits-X, expression_fits-Y, expression_fits-Z, expression_fits-Level, expression_fits-Material, expression_fits-Step, expression_fits-Read, expression_fits-Number, expression_fits-Neg, expression_fits-Binary, expression_fits-Select}
-use Rattle.problem_printable.proofs.Places.{place_case}
+use Rattle.problem_printable.proofs.Meanings.{meaning_case}
 
 both_true : (a b : Bool) → a ≡ true → b ≡ true → (a && b) ≡ true
 both_true a b p q = rw (p, q) refl
@@ -41,8 +41,8 @@ read_fits (fine names at kind store how name is_store is_fine_how free) = expres
 read_fits (reduction names at store name is_store free) = expression_fits-Number store _
 
 place_fits : (at : Lexeme) (e : Expr) → place_of at ≡ Some e → expression_fits e ≡ true
-place_fits at e is = place_case at e is (λ e. expression_fits e ≡ true)
-    expression_fits-X expression_fits-Y expression_fits-Z expression_fits-Level expression_fits-Material expression_fits-Step
+place_fits at e is = meaning_case (λ e. expression_fits e ≡ true) place_words at e is
+    (expression_fits-X, (expression_fits-Y, (expression_fits-Z, (expression_fits-Level, (expression_fits-Material, (expression_fits-Step, tt))))))
 
 binary_fits : (op : Op) (a b : Expr) → expression_fits a ≡ true → expression_fits b ≡ true → expression_fits (expr.Binary op a b) ≡ true
 binary_fits op a b p q = expression_fits-Binary op a b ∙ both_true _ _ p q

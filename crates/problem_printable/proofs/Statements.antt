@@ -14,12 +14,12 @@ use Rattle.problem_types.specs.declared.problem.GhostKind.TheVariants as ghosts
 use Rattle.problem_types.specs.declared.problem.What.{What}
 use Rattle.problem_types.specs.declared.problem.WriteKind.{WriteKind}
 use Rattle.statement_parse.specs.Grammar.{Fits, SpellsCorners, corners, SpellsLayers, no_layers, layers, SpellsWhat, same_level, coarser, finer, reduction, SpellsTarget, computes, modifies, reduces, SpellsStatement, version, steps, dump, ghost_limit, materials, level, box, patch, var, fold, init, task, requirement, writes, timestep, keep, end, IsFree}
-use Rattle.statement_parse.specs.Tables.{ghosts_of}
+use Rattle.statement_parse.specs.Tables.{ghosts_words}
 use Rattle.statement_parse.specs.declared.statement.Corners.{Corners}
 use Rattle.statement_parse.specs.declared.statement.Statement.{Statement}
 use Rattle.problem_printable.specs.Numbering.{what_names, statement_names}
 use Rattle.problem_printable.specs.Printable.{IsCorner, AreCorners, AreLayers, IsWhat, IsSayable}
-use Rattle.problem_printable.proofs.Places.{pick}
+use Rattle.problem_printable.proofs.Meanings.{meaning_case}
 use Rattle.problem_printable.proofs.Naming.{Grows, grows_none, grows_both}
 use Rattle.problem_printable.proofs.SpelledNames.{AreSpelled, behind_first, before, behind, named, expression_named}
 use Rattle.problem_printable.proofs.SpelledNumbers.{signed_in_range, numbers_fit}
@@ -82,28 +82,10 @@ corner_fits a b c p q r = record {
 corners_fit : {ts : List Lexeme} {c : Corners} → SpellsCorners ts c → AreCorners c
 corners_fit (corners a b c d e f p q r s t u) = (corner_fits a b c p q r, corner_fits d e f s t u)
 
--- what holds of each kind of layers that a word names
-ghosts_case : (t : Lexeme) (y : GhostKind) → ghosts_of t ≡ Some y → (P : GhostKind → Type 0)
-    → P ghosts.Cells → P ghosts.Nodes → P ghosts.FaceX → P ghosts.FaceY → P ghosts.FaceZ → P y
-ghosts_case t y e P p0 p1 p2 p3 p4 =
-    elim (pick (is_word (codes "cells") t) ghosts.Cells (if is_word (codes "nodes") t then Some ghosts.Nodes else (if is_word (codes "facex") t then Some ghosts.FaceX else (if is_word (codes "facey") t then Some ghosts.FaceY else (if is_word (codes "facez") t then Some ghosts.FaceZ else None)))) y e) [
-      | inl is ↦ subst P is p0
-      | inr e1 ↦ elim (pick (is_word (codes "nodes") t) ghosts.Nodes (if is_word (codes "facex") t then Some ghosts.FaceX else (if is_word (codes "facey") t then Some ghosts.FaceY else (if is_word (codes "facez") t then Some ghosts.FaceZ else None))) y e1) [
-        | inl is ↦ subst P is p1
-        | inr e2 ↦ elim (pick (is_word (codes "facex") t) ghosts.FaceX (if is_word (codes "facey") t then Some ghosts.FaceY else (if is_word (codes "facez") t then Some ghosts.FaceZ else None)) y e2) [
-          | inl is ↦ subst P is p2
-          | inr e3 ↦ elim (pick (is_word (codes "facey") t) ghosts.FaceY (if is_word (codes "facez") t then Some ghosts.FaceZ else None) y e3) [
-            | inl is ↦ subst P is p3
-            | inr e4 ↦ elim (pick (is_word (codes "facez") t) ghosts.FaceZ None y e4) [ inl is ↦ subst P is p4 | inr e5 ↦ absurd cc ]
-          ]
-        ]
-      ]
-    ]
-
 layers_fit : {ts : List Lexeme} {g : Ghost} → SpellsLayers ts g → AreLayers g
 layers_fit no_layers = (refl, omega arith)
 layers_fit (layers at kind n is some fits) =
-    (ghosts_case at kind is (λ kind. AreLayersInForm (record { kind = kind; n = n })) some some some some some, fits)
+    (meaning_case (λ kind. AreLayersInForm (record { kind = kind; n = n })) ghosts_words at kind is (some, (some, (some, (some, (some, tt))))), fits)
 
 what_fits : {ts : List Lexeme} {names : Words} {w : What} {after : Words} → SpellsWhat ts names w after → IsWhat w
 what_fits (same_level names name ts g free spelled) = layers_fit spelled
