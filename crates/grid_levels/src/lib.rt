@@ -12,4 +12,4 @@ mod tests;
 mod tiling;
 
 pub use level::{BadGrid, check_level};
-pub use limits::{is_within_limits, keeps_limits};
+pub use limits::{has_near_bounds, is_within_limits, keeps_limits};

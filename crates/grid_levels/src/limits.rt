@@ -11,7 +11,8 @@ fn are_near(low: u64, high: u64) -> bool
     low <= 4096 && high <= 4096
 }
 
-fn has_near_bounds(b: BoxLine) -> bool
+/// Whether the bounds of the box or the patch are at most 4,096.
+pub fn has_near_bounds(b: BoxLine) -> bool
     ensures { IsTrue result ↔ HasNearBounds b }
 {
     are_near(b.lo[0], b.hi[0]) && are_near(b.lo[1], b.hi[1]) && are_near(b.lo[2], b.hi[2])

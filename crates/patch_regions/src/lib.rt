@@ -10,8 +10,8 @@ mod tests;
 mod touches;
 
 pub use laws::{owned_spans_tile, spans_meet_in_indexes};
-pub use lines::{index_space, patch_box};
+pub use lines::{index_space, patch_box, patch_line};
 pub use owners::owner;
 pub use ownership::owned;
 pub use problem_types::NoMemory;
-pub use touches::touching;
+pub use touches::{do_meet, touching};

@@ -58,7 +58,7 @@ pub(crate) fn patch_count(level: &Level) -> u32
 }
 
 /// The line of a patch.
-pub(crate) fn patch_line(level: &Level, patch: u32) -> BoxLine
+pub fn patch_line(level: &Level, patch: u32) -> BoxLine
     requires limits { KeepsGridLimits level.now }
     requires patch { patch < length level.now.patches }
     ensures line { result ≡ patch_at level.now patch }

@@ -16,7 +16,7 @@ fn has_indexes(s: Span) -> bool
 }
 
 /// Whether the spans have an index in common.
-fn do_meet(a: Span, b: Span) -> bool
+pub fn do_meet(a: Span, b: Span) -> bool
     ensures { result ≡ do_meet a b }
 {
     has_indexes(meet(a, b))

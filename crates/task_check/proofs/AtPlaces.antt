@@ -1,0 +1,140 @@
+-- Values at their places in lists: what stands before a place, which place is the last one, and what stands at one place only.
+use Rattle.std.proofs.Common.{◌≡◌, ◌∙◌, ◌<◌, ◌+◌, ◌⊎◌, inl, inr, ℕ, zero, suc, List, [], ◌∷◌, Bool, true, false, cond, Some, length, take, drop, ap, refl, arith, subst}
+use Rattle.std.specs.Prelude.{slice_get, slice_index, ◌==◌, Any, Contains}
+use Rattle.std.specs.List.{count_by, list_any, find}
+use Rattle.std.specs.Option.{is_some}
+use Rattle.std.specs.List.Sorted.{IsStrictlyIncreasing}
+use Rattle.std.proofs.lemmas.Bool.{cases_order, eqb-true, eq-eqb}
+use Rattle.std.proofs.lemmas.Option.{slice_get_within, get_or_from_slice_get}
+use Rattle.uts_geom.specs.Spans.{counted}
+use Rattle.task_check.proofs.Sums.{from_place, count-one, at-counted, counted-at}
+
+pub get-take : {A : Type 0} (xs : List A) (n k : ℕ) → k < n → slice_get (take n xs) k ≡ slice_get xs k
+get-take xs zero k below = absurd (omega arith)
+get-take [] (suc n) k below = refl
+get-take (x ∷ xs) (suc n) zero below = refl
+get-take (x ∷ xs) (suc n) (suc k) below = get-take xs n k (omega arith)
+
+-- what stands in a front stands before its end
+pub from_take : {A : Type 0} (xs : List A) (n k : ℕ) (x : A) → slice_get (take n xs) k ≡ Some x → (k < n) × (slice_get xs k ≡ Some x)
+from_take xs zero k x at = absurd cc
+from_take [] (suc n) k x at = absurd cc
+from_take (y ∷ ys) (suc n) zero x at = (omega arith, at)
+from_take (y ∷ ys) (suc n) (suc k) x at = let rest = from_take ys n k x at in (omega (arith, rest.0), rest.1)
+
+pub get-drop : {A : Type 0} (xs : List A) (n k : ℕ) → slice_get (drop n xs) k ≡ slice_get xs (n + k)
+get-drop xs zero k = ap (slice_get xs) (let e : k ≡ 0 + k = omega arith in e)
+get-drop [] (suc n) k = refl
+get-drop (x ∷ xs) (suc n) k = get-drop xs n k ∙ ap (slice_get (x ∷ xs)) (let e : suc (n + k) ≡ suc n + k = omega arith in e)
+
+pub any_at : {A : Type 0} (P : A → Type 0) (xs : List A) (k : ℕ) (x : A) → slice_get xs k ≡ Some x → P x → Any P xs
+any_at P xs k x at holds = (k, x, slice_get_within xs k x at, get_or_from_slice_get xs k x x at, holds)
+
+-- what stands before a place
+pub any_before : {A : Type 0} (P : A → Type 0) (xs : List A) (n k : ℕ) (x : A) → k < n → slice_get xs k ≡ Some x → P x → Any P (take n xs)
+any_before P xs n k x before at holds = any_at P (take n xs) k x (get-take xs n k before ∙ at) holds
+
+pub contains_at : {A : Type 0} (xs : List A) (k : ℕ) (x : A) → slice_get xs k ≡ Some x → Contains xs x
+contains_at xs k x at = (k, slice_get_within xs k x at, get_or_from_slice_get xs k x x at)
+
+-- what stands at no two places stands at one
+pub one_by_order : (Q : ℕ → Type 0) → ((i j : ℕ) → i < j → Q i → Q j → ⊥) → (i j : ℕ) → Q i → Q j → i ≡ j
+one_by_order Q never i j at_i at_j = by_order (cases_order i j)
+  where
+    by_order : (i ≡ j) ⊎ ((i < j) ⊎ (j < i)) → i ≡ j
+    by_order (inl same) = same
+    by_order (inr (inl before)) = absurd (never i j before at_i at_j)
+    by_order (inr (inr after)) = absurd (never j i after at_j at_i)
+
+-- a list that ascends has each number once
+ascends : (xs : List ℕ) → IsStrictlyIncreasing xs → (i n : ℕ) → i + suc n < length xs → slice_index xs i < slice_index xs (i + suc n)
+ascends xs up i zero below = let e : i + 1 ≡ i + suc zero = omega arith in subst (λ j. slice_index xs i < slice_index xs j) e (up i (omega arith))
+ascends xs up i (suc n) below =
+    let before = ascends xs up i n (omega arith) in
+    let last : slice_index xs (i + suc n) < slice_index xs (i + suc n + 1) = up (i + suc n) (omega arith) in
+    let e : i + suc n + 1 ≡ i + suc (suc n) = omega arith in
+    let after : slice_index xs (i + suc n) < slice_index xs (i + suc (suc n)) = subst (λ j. slice_index xs (i + suc n) < slice_index xs j) e last in
+    omega (arith, before, after)
+
+gap_of : (i j : ℕ) → i < j → (n : ℕ) × (i + suc n ≡ j)
+gap_of i zero before = absurd (omega arith)
+gap_of zero (suc j) before = (j, omega arith)
+gap_of (suc i) (suc j) before = let rest = gap_of i j (omega arith) in (rest.0, omega (arith, rest.1))
+
+pub once_in_ascent : (xs : List ℕ) → IsStrictlyIncreasing xs → (i j x : ℕ) → slice_get xs i ≡ Some x → slice_get xs j ≡ Some x → i ≡ j
+once_in_ascent xs up i j x at_i at_j = one_by_order (λ k. slice_get xs k ≡ Some x) never i j at_i at_j
+  where
+    never : (a b : ℕ) → a < b → slice_get xs a ≡ Some x → slice_get xs b ≡ Some x → ⊥
+    never a b before at_a at_b =
+        let gap = gap_of a b before in
+        let below : b < length xs = slice_get_within xs b x at_b in
+        let less = ascends xs up a gap.0 (omega (arith, below, gap.1)) in
+        let less_at : slice_index xs a < slice_index xs b = subst (λ j. slice_index xs a < slice_index xs j) gap.1 less in
+        let here : slice_index xs a ≡ x = get_or_from_slice_get xs a x 0 at_a in
+        let there : slice_index xs b ≡ x = get_or_from_slice_get xs b x 0 at_b in
+        omega (arith, less_at, here, there)
+
+pub count-in_ascent : (xs : List ℕ) → IsStrictlyIncreasing xs → (i x : ℕ) → slice_get xs i ≡ Some x → count_by (λ y. y == x) xs ≡ 1
+count-in_ascent xs up i x at = count-one (λ y. y == x) xs i x at (eq-eqb x x refl)
+    (λ j y there same. once_in_ascent xs up j i x (there ∙ ap Some (eqb-true y x same)) at)
+
+pub count-counted : (n k : ℕ) → k < n → count_by (λ j. j == k) (counted 0 n) ≡ 1
+count-counted n k below = count-one (λ j. j == k) (counted 0 n) k k (counted-at n k below) (eq-eqb k k refl)
+    (λ j y there same. let at = at-counted n j y there in let e = eqb-true y k same in omega (arith, at.0, e))
+
+-- one of the values is found
+pub found_at : {A : Type 0} (p : A → Bool) (xs : List A) (k : ℕ) (x : A) → slice_get xs k ≡ Some x → p x ≡ true → is_some (find p xs) ≡ true
+found_at p [] k x at passes = absurd cc
+found_at p (y ∷ ys) zero x at passes = let same : y ≡ x = cc in rw (same, passes) refl
+found_at {A} p (y ∷ ys) (suc k) x at passes = by_test (p y) (found_at p ys k x at passes)
+  where
+    by_test : (b : Bool) → is_some (find p ys) ≡ true → is_some (cond b (Some y) (find p ys)) ≡ true
+    by_test true rest = refl
+    by_test false rest = rest
+
+pub place_of_found : {A : Type 0} (p : A → Bool) (xs : List A) → is_some (find p xs) ≡ true → (k : ℕ) × (x : A) × (slice_get xs k ≡ Some x) × (p x ≡ true)
+place_of_found p [] some = absurd cc
+place_of_found {A} p (y ∷ ys) some = by_test (p y) refl some (place_of_found p ys)
+  where
+    by_test : (b : Bool) → p y ≡ b → is_some (cond b (Some y) (find p ys)) ≡ true →
+        (is_some (find p ys) ≡ true → (k : ℕ) × (x : A) × (slice_get ys k ≡ Some x) × (p x ≡ true)) →
+        (k : ℕ) × (x : A) × (slice_get (y ∷ ys) k ≡ Some x) × (p x ≡ true)
+    by_test true is some rest = (0, y, refl, is)
+    by_test false is some rest = let there = rest some in (suc there.0, there.1, there.2, there.3)
+
+-- The last value that passes.
+pub record IsLast {A : Type 0} (p : A → Bool) (xs : List A) (k : ℕ) (x : A) : Type 0 where
+  pub stands : slice_get xs k ≡ Some x
+  pub passes : p x ≡ true
+  pub none_after : list_any p (drop (k + 1) xs) ≡ false
+
+abbrev pub Lasts : {A : Type 0} → (A → Bool) → List A → Type 0
+Lasts {A} p xs = (k : ℕ) × (x : A) × IsLast p xs k x
+
+pub last_of : {A : Type 0} (p : A → Bool) (xs : List A) → list_any p xs ≡ true → Lasts p xs
+last_of p [] some = absurd cc
+last_of {A} p (y ∷ ys) some = by_rest (list_any p ys) refl (p y) refl some (last_of p ys)
+  where
+    next : Lasts p ys → Lasts p (y ∷ ys)
+    next rest = (
+      suc rest.0,
+      rest.1,
+      record {
+        stands = rest.2.stands;
+        passes = rest.2.passes;
+        none_after = subst (λ n. list_any p (drop n (y ∷ ys)) ≡ false) (let e : suc (rest.0 + 1) ≡ suc rest.0 + 1 = omega arith in e) rest.2.none_after;
+      },
+    )
+
+    by_rest : (b : Bool) → list_any p ys ≡ b → (a : Bool) → p y ≡ a → list_any p (y ∷ ys) ≡ true → (list_any p ys ≡ true → Lasts p ys) → Lasts p (y ∷ ys)
+    by_rest true is a here some rest = next (rest is)
+    by_rest false is true here some rest = (0, y, record { stands = refl; passes = here; none_after = subst (λ n. list_any p (drop n (y ∷ ys)) ≡ false) (let e : suc zero ≡ 0 + 1 = omega arith in e) is })
+    by_rest false is false here some rest = absurd (let none : list_any p (y ∷ ys) ≡ false = rw (here, is) refl in cc)
+
+-- no later one passes
+pub none_later : {A : Type 0} (p : A → Bool) (xs : List A) (k j : ℕ) (x : A) → list_any p (drop (k + 1) xs) ≡ false → k < j → slice_get xs j ≡ Some x → p x ≡ true → ⊥
+none_later p xs k j x none after at passes =
+    let gap = gap_of k j after in
+    let e : k + 1 + gap.0 ≡ j = omega (arith, gap.1) in
+    let there = from_place p (drop (k + 1) xs) gap.0 x (get-drop xs (k + 1) gap.0 ∙ ap (slice_get xs) e ∙ at) passes in
+    cc

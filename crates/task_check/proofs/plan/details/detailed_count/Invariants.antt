@@ -1,0 +1,8 @@
+use Rattle.std.proofs.Common.{◌≡◌, ◌≤◌, ◌*◌, take}
+use Rattle.std.specs.List.{sum_by}
+use Rattle.problem_types.specs.Lists.{task_list}
+use Rattle.task_check.specs.Sizes.{details_count}
+use Rattle.task_check.proofs.plan.details.detailed_count.Given as goal
+
+abbrev pub invariant-loop-t : goal.invariant-loop-t
+invariant-loop-t l = record { count : l.total ≡ sum_by (details_count l.p) (take l.t-index (task_list l.p l.list)); few : l.total ≤ 32832 * l.t-index }

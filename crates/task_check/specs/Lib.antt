@@ -1,0 +1,15 @@
+pub mod Places
+pub mod Supplies
+pub mod Lines
+pub mod Faults
+pub mod First
+pub mod Parts
+pub mod Plan
+pub mod Counts
+pub mod Reaches
+pub mod PlanSums
+pub mod Reading
+pub mod OldSlots
+pub mod Tallies
+pub mod Sizes
+pub mod Laws

@@ -1,0 +1,26 @@
+//! The checker: a problem without faults, or the first fault. `docs/language.md` has the faults.
+#![tactic(auto)]
+
+mod checked;
+mod checking;
+mod fault;
+mod keeps;
+mod kinds;
+mod laws;
+mod levels;
+mod line;
+mod lines;
+mod numbers;
+mod plan;
+mod reductions;
+mod requirements;
+mod slices;
+mod supplies;
+mod tasks;
+mod variables;
+mod writes;
+
+pub use checked::Checked;
+pub use checking::{Refusal, check};
+pub use fault::{Fault, FaultKind, Which};
+pub use laws::{accepted_problems_have_none, first_faults_are_one, problems_are_judged};

@@ -1,0 +1,12 @@
+//! How large the plan of a list of tasks is.
+mod details;
+mod gathered;
+pub(crate) mod limits;
+mod old_reads;
+mod old_slots;
+mod reach;
+mod reads;
+mod slots;
+mod tally;
+mod touches;
+mod windows;
