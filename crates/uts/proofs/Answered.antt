@@ -1,17 +1,23 @@
 -- One answer to all words and texts.
-use Rattle.std.proofs.Common.{◌≡◌, ◌⊎◌, inl, inr, ◌≤◌, ◌<◌, ◌^◌, ℕ, Bool, true, false, List, [], ◌∷◌, length, map, string_bytes, String, codes, refl, ap, arith}
+use Rattle.std.proofs.Common.{◌≡◌, ◌⊎◌, inl, inr, ◌≤◌, ◌<◌, ◌^◌, ℕ, Bool, true, false, List, [], ◌∷◌, length, map, string_bytes, String, Some, codes, refl, ap, arith}
 use Rattle.std.specs.declared.alloc.Global.{Global}
 use Rattle.std.specs.Str.{bytes_eq}
 use Rattle.std.proofs.lemmas.Bool.Decides.{nat_tests}
 use Rattle.std.proofs.lemmas.Slice.Eq.{bytes_eq-Decides}
-use Rattle.problem_types.specs.Dump.{dump_text}
+use Rattle.problem_types.specs.Dump.{line}
 use Rattle.problem_types.specs.Laws.{ThinProblemsAreJudged}
 use Rattle.problem_types.specs.declared.problem.Problem.{Problem}
-use Rattle.problem_types.specs.Thin.{IsThinProblem}
-use Rattle.problem_file.specs.Grammar.{Spells, IsBadLine}
-use Rattle.problem_file.specs.Laws.{OneProblem, NoProblemWithABadLine, EveryTextIsJudged}
-use Rattle.uts.specs.Answer.{IsPlain, IsRefused, Answers, usage, refusal, dump}
+use Rattle.problem_file.specs.Grammar.{Spells}
+use Rattle.problem_file.specs.Laws.{OneProblem, OneBadLine, NoProblemWithABadLine, EveryTextIsJudged, ProblemsAreInForm}
+use Rattle.task_check.specs.First.{IsAccepted}
+use Rattle.task_check.specs.Laws.{ProblemsAreJudged, FirstFaultsAreOne, AcceptedProblemsHaveNone}
+use Rattle.uts.specs.Answer.{IsCommand, IsRefused, Answers, usage, refusal, not_yet, accepted, dump, ErrorLine, none, too_long, bad_text, fault, not_yet_line, usage_line}
+use Rattle.uts.specs.Commands.{Asks, IsServedBy, IsRefusedBy, bytes_of}
 use Rattle.uts.specs.Laws.{HasOneAnswer, OneAnswer}
+use Rattle.uts.specs.declared.command.Command.{Command}
+use Rattle.uts.specs.declared.command.Command.TheVariants.{Plain, Check}
+use Rattle.uts.proofs.Lines.{only_none, only_usage, only_refusal}
+use Rattle.uts.proofs.Outcomes.{Outcome, refused, done, outcome_of, answer_of}
 use Rattle.uts.proofs.Told.{never_both}
 
 same_or_not : (a b : List ℕ) → (a ≡ b) ⊎ (a ≡ b → ⊥)
@@ -27,52 +33,119 @@ one_word_or_not (text ∷ []) word =
     elim (same_or_not text word) [ inl same ↦ inl (ap (λ (t : List ℕ). t ∷ []) same) | inr other ↦ inr (λ is. other cc) ]
 one_word_or_not (text ∷ other ∷ texts) word = inr (λ is. absurd cc)
 
-plain_or_not : (words : List (String Global)) → IsPlain words ⊎ (IsPlain words → ⊥)
-plain_or_not words = one_word_or_not (map string_bytes words) (codes "plain")
+command_or_not : (words : List (String Global)) → ((command : Command) × Asks words command) ⊎ (IsCommand words → ⊥)
+command_or_not words = elim (one_word_or_not (map string_bytes words) (codes "plain")) [
+  | inl plain ↦ inl (Plain, plain)
+  | inr not_plain ↦ elim (one_word_or_not (map string_bytes words) (codes "check")) [
+    | inl check ↦ inl (Check, check)
+    | inr not_check ↦ inr (λ is. elim is [ inl plain ↦ not_plain plain | inr check ↦ not_check check ])
+  ]
+]
 
 -- words of no command
-of_no_command : (words : List (String Global)) (text : List ℕ) → (IsPlain words → ⊥) → HasOneAnswer words text
-of_no_command words text other = record { status = 2; bytes = []; answers = usage other; only = only }
+of_no_command : (words : List (String Global)) (text : List ℕ) → (IsCommand words → ⊥) → HasOneAnswer words text
+of_no_command words text other = record {
+  status = 2;
+  bytes = [];
+  answers = usage other;
+  only = only;
+  line = line (codes "usage: plain, check, graph, make N, run W, mill N W");
+  told = usage_line other;
+  only_line = only_usage words text;
+}
   where
     only : (status : ℕ) (bytes : List ℕ) → Answers words text status bytes → (status ≡ 2) × (bytes ≡ [])
-    only status bytes (usage not_plain) = (refl, refl)
-    only status bytes (refusal plain refused) = absurd (other plain)
-    only status bytes (dump plain short p spelled thin) = absurd (other plain)
+    only status bytes (usage no_command) = (refl, refl)
+    only status bytes (refusal is why) = absurd (other is)
+    only status bytes (not_yet plain why) = absurd (other (inl plain))
+    only status bytes (accepted check short p spelled fine) = absurd (other (inr check))
+    only status bytes (dump plain short p spelled fine thin) = absurd (other (inl plain))
 
-module _ (one_problem : OneProblem) (no_problem : NoProblemWithABadLine) (words : List (String Global)) (text : List ℕ) (plain : IsPlain words) where
-  of_refused : IsRefused text → HasOneAnswer words text
-  of_refused refused = record { status = 1; bytes = []; answers = refusal plain refused; only = only }
+-- each text that a command refuses has a line that tells of it
+line_of_refused : (words : List (String Global)) (text : List ℕ) → IsRefused text → (told : List ℕ) × ErrorLine words (Some text) 1 told
+line_of_refused words text (inl long) = (_, too_long long)
+line_of_refused words text (inr (inl (bad, why))) = (_, bad_text bad why)
+line_of_refused words text (inr (inr (at_line, k, why))) = (_, fault at_line k why)
+
+line_of_refusal : (words : List (String Global)) (command : Command) (text : List ℕ) → Asks words command → IsRefusedBy command text →
+    (told : List ℕ) × ErrorLine words (Some text) 1 told
+line_of_refusal words Plain text asks (inl why) = line_of_refused words text why
+line_of_refusal words Plain text asks (inr later) = (_, not_yet_line asks later)
+line_of_refusal words Check text asks why = line_of_refused words text why
+
+refused_of_all : (command : Command) (text : List ℕ) → IsRefused text → IsRefusedBy command text
+refused_of_all Plain text why = inl why
+refused_of_all Check text why = why
+
+-- an accepted problem is served by the command, or left for later
+module _ (thins : ThinProblemsAreJudged) (text : List ℕ) (p : Problem) (short : length text ≤ 2 ^ 20) (spelled : Spells text p) (fine : IsAccepted p) where
+  served_or_later : (command : Command) → IsServedBy command p ⊎ IsRefusedBy command text
+  served_or_later Plain = elim (thins p) [
+    | inl thin ↦ inl thin
+    | inr other ↦ inr (inr (record { short = short; problem = p; spelled = spelled; accepted = fine; other = other }))
+  ]
+  served_or_later Check = inl tt
+
+module _ (one_problem : OneProblem) (one_bad_line : OneBadLine) (no_problem : NoProblemWithABadLine) (one_fault : FirstFaultsAreOne)
+    (no_fault : AcceptedProblemsHaveNone) (words : List (String Global)) (command : Command) (text : List ℕ) (asks : Asks words command) where
+  of_refused : IsRefusedBy command text → HasOneAnswer words text
+  of_refused why =
+      let told = line_of_refusal words command text asks why in
+      record {
+        status = 1;
+        bytes = [];
+        answers = answer_of words text command 1 [] asks (refused why);
+        only = λ status bytes answer. only status bytes (outcome_of words text command status bytes asks answer);
+        line = told.0;
+        told = told.1;
+        only_line = λ other is. only_refusal words text one_problem one_bad_line no_problem one_fault no_fault told.0 other told.1 is;
+      }
     where
-      only : (status : ℕ) (bytes : List ℕ) → Answers words text status bytes → (status ≡ 1) × (bytes ≡ [])
-      only status bytes (usage not_plain) = absurd (not_plain plain)
-      only status bytes (refusal is_plain why) = (refl, refl)
-      only status bytes (dump is_plain short p spelled thin) = absurd (never_both one_problem no_problem text p short spelled thin refused)
+      only : (status : ℕ) (bytes : List ℕ) → Outcome command text status bytes → (status ≡ 1) × (bytes ≡ [])
+      only status bytes (refused other) = (refl, refl)
+      only status bytes (done short p spelled fine served) =
+          absurd (never_both one_problem no_problem no_fault command text p short spelled fine served why)
 
-  of_run : (p : Problem) → length text ≤ 2 ^ 20 → Spells text p → IsThinProblem p → HasOneAnswer words text
-  of_run p short spelled thin = record { status = 0; bytes = dump_text p []; answers = dump plain short p spelled thin; only = only }
+  of_served : (p : Problem) → length text ≤ 2 ^ 20 → Spells text p → IsAccepted p → IsServedBy command p → HasOneAnswer words text
+  of_served p short spelled fine served = record {
+    status = 0;
+    bytes = bytes_of command p;
+    answers = answer_of words text command 0 (bytes_of command p) asks (done short p spelled fine served);
+    only = λ status bytes answer. only status bytes (outcome_of words text command status bytes asks answer);
+    line = [];
+    told = none;
+    only_line = only_none words text;
+  }
     where
-      only : (status : ℕ) (bytes : List ℕ) → Answers words text status bytes → (status ≡ 0) × (bytes ≡ dump_text p [])
-      only status bytes (usage not_plain) = absurd (not_plain plain)
-      only status bytes (refusal is_plain why) = absurd (never_both one_problem no_problem text p short spelled thin why)
-      only status bytes (dump is_plain is_short q spells is_thin) = (refl, ap (λ (r : Problem). dump_text r []) (one_problem text q p spells spelled))
+      only : (status : ℕ) (bytes : List ℕ) → Outcome command text status bytes → (status ≡ 0) × (bytes ≡ bytes_of command p)
+      only status bytes (refused why) = absurd (never_both one_problem no_problem no_fault command text p short spelled fine served why)
+      only status bytes (done is_short q spells is_fine is_served) = (refl, ap (λ (r : Problem). bytes_of command r) (one_problem text q p spells spelled))
 
-  of_short : EveryTextIsJudged → ThinProblemsAreJudged → length text ≤ 2 ^ 20 → HasOneAnswer words text
-  of_short texts thins short = elim (texts text) [
-    | inl problem ↦ elim (thins problem.0) [
-      | inl thin ↦ of_run problem.0 short problem.1 thin
-      | inr other ↦ of_refused (inr (inr (record { short = short; problem = problem.0; spelled = problem.1; other = other })))
+  of_problem : ThinProblemsAreJudged → ProblemsAreInForm → ProblemsAreJudged → (p : Problem) → length text ≤ 2 ^ 20 → Spells text p → HasOneAnswer words text
+  of_problem thins forms judged p short spelled = elim (judged p (forms text p spelled (omega arith))) [
+    | inl fine ↦ elim (served_or_later thins text p short spelled fine command) [
+      | inl served ↦ of_served p short spelled fine served
+      | inr later ↦ of_refused later
     ]
-    | inr bad ↦ of_refused (inr (inl (bad.0, record { short = short; first_bad = bad.1 })))
+    | inr (at_line, k, first) ↦
+        of_refused (refused_of_all command text (inr (inr (at_line, k, record { short = short; problem = p; spelled = spelled; first_fault = first }))))
+  ]
+
+  of_short : ThinProblemsAreJudged → ProblemsAreInForm → ProblemsAreJudged → EveryTextIsJudged → length text ≤ 2 ^ 20 → HasOneAnswer words text
+  of_short thins forms judged texts short = elim (texts text) [
+    | inl problem ↦ of_problem thins forms judged problem.0 short problem.1
+    | inr bad ↦ of_refused (refused_of_all command text (inr (inl (bad.0, record { short = short; first_bad = bad.1 }))))
   ]
 
 short_or_long : (n most : ℕ) → (n ≤ most) ⊎ (most < n)
 short_or_long n most = grind arith
 
-pub one_answer : OneProblem → NoProblemWithABadLine → EveryTextIsJudged → ThinProblemsAreJudged → OneAnswer
-one_answer one_problem no_problem texts thins words text = elim (plain_or_not words) [
+pub one_answer : OneProblem → OneBadLine → NoProblemWithABadLine → EveryTextIsJudged → ProblemsAreInForm → ProblemsAreJudged → FirstFaultsAreOne →
+    AcceptedProblemsHaveNone → ThinProblemsAreJudged → OneAnswer
+one_answer one_problem one_bad_line no_problem texts forms judged one_fault no_fault thins words text = elim (command_or_not words) [
   | inr other ↦ of_no_command words text other
-  | inl plain ↦ elim (short_or_long (length text) (2 ^ 20)) [
-    | inl short ↦ of_short one_problem no_problem words text plain texts thins short
-    | inr long ↦ of_refused one_problem no_problem words text plain (inl long)
+  | inl (command, asks) ↦ elim (short_or_long (length text) (2 ^ 20)) [
+    | inl short ↦ of_short one_problem one_bad_line no_problem one_fault no_fault words command text asks thins forms judged texts short
+    | inr long ↦ of_refused one_problem one_bad_line no_problem one_fault no_fault words command text asks (refused_of_all command text (inl long))
   ]
 ]

@@ -1,3 +1,5 @@
 pub mod Answer
+pub mod Commands
 pub mod Failures
 pub mod Laws
+pub mod Words

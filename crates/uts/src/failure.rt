@@ -2,6 +2,7 @@ ghost use Rattle.std.specs.Prelude.{◌≡◌};
 
 use plain_engine::RunFault;
 use problem_file::ParseFault;
+use task_check::{Fault, Refusal};
 use uts_io::ReadAll;
 
 /// Why the program did not do what its words ask.
@@ -13,6 +14,8 @@ pub enum Failure {
     TooLong,
     /// The text spells no problem. This is its first bad line, counted from 1.
     BadText { line: u32 },
+    /// The text spells a problem with faults. This is the first one.
+    Faulty(Fault),
     /// The text spells a problem that is not run yet.
     NotYet,
     /// The source failed.
@@ -63,6 +66,19 @@ impl From<ParseFault> for Failure {
     }
 }
 
+impl From<Refusal> for Failure {
+    ghost use Rattle.uts.specs.Failures.{of_check};
+
+    ghost from_gives = { λ refusal f. f ≡ of_check refusal };
+
+    fn from(refusal: Refusal) -> Self {
+        match refusal {
+            Refusal::Fault(fault) => Failure::Faulty(fault),
+            Refusal::NoMemory => Failure::NoMemory,
+        }
+    }
+}
+
 impl Failure {
     ghost use Rattle.uts.specs.Failures.{status_of, status_after_fault};
 
@@ -71,7 +87,7 @@ impl Failure {
         ensures { result ≡ status_of self }
     {
         match self {
-            Failure::TooLong | Failure::BadText { .. } | Failure::NotYet => 1,
+            Failure::TooLong | Failure::BadText { .. } | Failure::Faulty(_) | Failure::NotYet => 1,
             Failure::Usage => 2,
             Failure::ReadFault => 3,
             Failure::WriteFault => 4,
@@ -84,7 +100,11 @@ impl Failure {
         ensures { result ≡ status_after_fault self }
     {
         match self {
-            Failure::TooLong | Failure::BadText { .. } | Failure::NotYet | Failure::Usage => 4,
+            Failure::TooLong
+            | Failure::BadText { .. }
+            | Failure::Faulty(_)
+            | Failure::NotYet
+            | Failure::Usage => 4,
             _ => self.status(),
         }
     }

@@ -1,13 +1,17 @@
-//! Runs simulation components given as task graphs: reads a problem, and writes its dump.
+//! Runs simulation components given as task graphs: reads a problem, checks it, and writes its dump.
 #![tactic(auto)]
 
+mod command;
 mod failure;
 mod laws;
-mod plain;
+#[cfg(test)]
+mod refusals_tests;
 mod report;
+mod serve;
 #[cfg(test)]
 mod tests;
 mod top;
+mod wording;
 
 use failure::Failure;
 use report::report;

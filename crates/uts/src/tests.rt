@@ -10,7 +10,7 @@ const GROWING: &str =
 const GROWING_DUMP: &str =
     "dump 1\nstep 0\nfield u 0 0 0 0 0 4 1 1\n1 1 1 1\nstep 1\nfield u 0 0 0 0 0 4 1 1\n7 3 3 7\nstep 2\nfield u 0 0 0 0 0 4 1 1\n9 11 11 9\nend\n";
 
-const TWO_PATCHES: &str =
+pub const TWO_PATCHES: &str =
     "problem 1\nsteps 2\ndump 1\nghost 1\nmaterials 1\nlevel ratio 1\nbox 0 0 0 4 1 1\npatch 0 0 0 2 1 1\npatch 2 0 0 4 1 1\nvar u cell outside 0\ninit\ntask start levels 0 materials 0\ncomputes u = x * 10\ntimestep\ntask shift levels 0 materials 0\nrequires old u cells 1\ncomputes u = old.u[-1,0,0] + old.u[1,0,0]\nkeep u\nend\n";
 
 // The lines of that problem up to its last kernel.
@@ -19,13 +19,13 @@ const CUT_SHORT: &str =
 
 /// The calls of the source and of the two sinks that fail.
 #[derive(Clone, Copy)]
-struct Faults<'a> {
-    source: &'a [u32],
-    out: &'a [u32],
-    err: &'a [u32],
+pub struct Faults<'a> {
+    pub source: &'a [u32],
+    pub out: &'a [u32],
+    pub err: &'a [u32],
 }
 
-const CALM: Faults = Faults {
+pub const CALM: Faults = Faults {
     source: &[],
     out: &[],
     err: &[],
@@ -33,13 +33,13 @@ const CALM: Faults = Faults {
 
 /// What a call answered: its status, and what stands on standard output and standard error.
 #[derive(Drop)]
-struct Answer {
-    status: u8,
-    out: Vec<u8>,
-    err: Vec<u8>,
+pub struct Answer {
+    pub status: u8,
+    pub out: Vec<u8>,
+    pub err: Vec<u8>,
 }
 
-fn call(alloc: Global, word: &str, text: &[u8], faults: &Faults) -> Result<Answer, Fail> {
+pub fn call(alloc: Global, word: &str, text: &[u8], faults: &Faults) -> Result<Answer, Fail> {
     let words = vec![in alloc; word.to_string(alloc)?]?;
     let mut source = MemSource::new(text.to_vec(alloc)?, faults.source.to_vec(alloc)?);
     let mut out = MemSink::new(alloc, 1 << 23, faults.out.to_vec(alloc)?)?;
@@ -121,6 +121,17 @@ fn other_texts_are_refused(rt: HostRuntime) -> Result<(), Fail> {
 }
 
 #[test]
+fn a_problem_without_faults_is_accepted(rt: HostRuntime) -> Result<(), Fail> {
+    for text in [GROWING, TWO_PATCHES] {
+        let answer = call(rt.alloc(), "check", text.as_bytes(), &CALM)?;
+        assert_eq!(rt; answer.status, 0);
+        assert_eq!(rt; answer.out.as_slice(), b"accepted\n".as_slice());
+        assert_eq!(rt; answer.err.len(), 0);
+    }
+    Ok(())
+}
+
+#[test]
 fn faults_are_told(rt: HostRuntime) -> Result<(), Fail> {
     let alloc = rt.alloc();
     let out_fails = Faults {
@@ -152,7 +163,7 @@ fn a_line_that_failed_is_not_told_again(rt: HostRuntime) -> Result<(), Fail> {
         out: &[],
         err: &[0],
     };
-    for word in ["plain", "no command"] {
+    for word in ["plain", "check", "no command"] {
         let untold = call(rt.alloc(), word, b"", &err_fails)?;
         assert_eq!(rt; untold.status, 4, "{word}");
         assert_eq!(rt; untold.err.len(), 0, "{word}");
@@ -162,7 +173,7 @@ fn a_line_that_failed_is_not_told_again(rt: HostRuntime) -> Result<(), Fail> {
 
 #[test]
 fn words_of_no_command(rt: HostRuntime) -> Result<(), Fail> {
-    for word in ["", "check", "plain ", "--help"] {
+    for word in ["", "graph", "plain ", "--help"] {
         let answer = call(rt.alloc(), word, GROWING.as_bytes(), &CALM)?;
         assert_eq!(rt; answer.status, 2, "{word}");
         assert_eq!(rt;

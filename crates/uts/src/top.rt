@@ -1,31 +1,17 @@
-ghost use Rattle.std.specs.Prelude.{◌≡◌, ◌⊎◌, ◌≤◌, ◌↔◌, ℕ, List, [], IsTrue, IfSome, codes};
+ghost use Rattle.std.specs.Prelude.{◌≡◌, ◌⊎◌, ◌≤◌, ℕ, List, [], IfSome};
 ghost use Rattle.uts_io.specs.Streams.{Rose, grown, GrewByPrefix, IsAtEnd};
-ghost use Rattle.uts.specs.Answer.{IsPlain, Answers, ErrorLine};
+ghost use Rattle.uts.specs.Answer.{IsCommand, Answers, ErrorLine};
 ghost use Rattle.uts.specs.Laws.{OneAnswer};
 
+use crate::command::Command;
 use crate::failure::Failure;
 use crate::laws::one_answer;
-use crate::plain::plain;
 use crate::report::report;
+use crate::serve::serve;
 use problem_file::{no_problem_with_a_bad_line, one_problem};
 use std::alloc::Global;
+use task_check::accepted_problems_have_none;
 use uts_io::{Sink, Source};
-
-fn says_plain(word: &str) -> bool
-    ensures { IsTrue result ↔ (word.now ≡ codes "plain") }
-{
-    word == "plain"
-}
-
-/// Whether the words are the command `plain`.
-fn is_plain(words: &[String]) -> bool
-    ensures { IsTrue result ↔ IsPlain words.now }
-{
-    match words.first() {
-        Some(word) => words.len() == 1 && says_plain(word.as_str()),
-        None => false,
-    }
-}
 
 /// Does what the words ask, and gives the status of the program.
 pub fn quiet_top<R: Source, O: Sink, E: Sink>(
@@ -38,10 +24,10 @@ pub fn quiet_top<R: Source, O: Sink, E: Sink>(
     ensures statuses { result ≤ 5 }
 
     // Words that are no command.
-    ensures usage { (IsPlain words.now → ⊥) → (result ≡ 2) ⊎ ((result ≡ 4) × Rose (E.faults err.old) (E.faults err.new)) }
-    ensures usage_only { result ≡ 2 → IsPlain words.now → ⊥ }
-    ensures nothing_read { (IsPlain words.now → ⊥) → source.new ≡ source.old }
-    ensures nothing_written { (IsPlain words.now → ⊥) → out.new ≡ out.old }
+    ensures usage { (IsCommand words.now → ⊥) → (result ≡ 2) ⊎ ((result ≡ 4) × Rose (E.faults err.old) (E.faults err.new)) }
+    ensures usage_only { result ≡ 2 → IsCommand words.now → ⊥ }
+    ensures nothing_read { (IsCommand words.now → ⊥) → source.new ≡ source.old }
+    ensures nothing_written { (IsCommand words.now → ⊥) → out.new ≡ out.old }
 
     // Done: the source was read to its end, and the bytes for its text were written.
     ensures ended { result ≡ 0 → IsAtEnd (R.left source.new) }
@@ -74,7 +60,7 @@ pub fn quiet_top<R: Source, O: Sink, E: Sink>(
         → (Rose (R.faults source.old) (R.faults source.new) → ⊥) → (Rose (E.faults err.old) (E.faults err.new) → ⊥)
         → (result ≡ 1) ⊎ (result ≡ 5)) }
 
-    // There is one answer, and no two, to each words and text.
+    // There is one answer with one line on standard error, and no two, to each words and text.
     ensures one_answer { OneAnswer }
 
     // No count of faults falls.
@@ -84,11 +70,12 @@ pub fn quiet_top<R: Source, O: Sink, E: Sink>(
 {
     one_problem();
     no_problem_with_a_bad_line();
+    accepted_problems_have_none();
     one_answer();
-    if !is_plain(words) {
+    let Some(command) = Command::of_words(words) else {
         return report(alloc, err, Failure::Usage);
-    }
-    match plain(alloc, source, out) {
+    };
+    match serve(alloc, command, source, out) {
         Ok(()) => 0,
         Err(failure) => report(alloc, err, failure),
     }

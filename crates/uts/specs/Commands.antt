@@ -1,0 +1,43 @@
+-- What each command is called, refuses and writes.
+use Rattle.std.specs.Prelude.{◌≡◌, ◌⊎◌, ℕ, List, [], codes, Option, Some, None, String}
+use Rattle.std.specs.declared.alloc.Global.{Global}
+use Rattle.problem_types.specs.Dump.{line, dump_text}
+use Rattle.problem_types.specs.declared.problem.Problem.{Problem}
+use Rattle.problem_types.specs.Thin.{IsThinProblem}
+use Rattle.uts.specs.Answer.{IsPlain, IsCheck, IsCommand, IsRefused, IsNotYet}
+use Rattle.uts.specs.declared.command.Command.{Command}
+use Rattle.uts.specs.declared.command.Command.TheVariants.{Plain, Check}
+
+abbrev pub name_of : Command → List ℕ
+name_of Plain = codes "plain"
+name_of Check = codes "check"
+
+-- the command of this name, if there is one
+abbrev pub IsNamed : List ℕ → Option Command → Type 0
+IsNamed word (Some command) = word ≡ name_of command
+IsNamed word None = (word ≡ codes "plain" → ⊥) × (word ≡ codes "check" → ⊥)
+
+-- the words are this command
+abbrev pub Asks : List (String Global) → Command → Type 0
+Asks words Plain = IsPlain words
+Asks words Check = IsCheck words
+
+-- the command that the words are, if they are one
+abbrev pub AsksFor : List (String Global) → Option Command → Type 0
+AsksFor words (Some command) = Asks words command
+AsksFor words None = IsCommand words → ⊥
+
+-- the command does its work with this problem, where it has no fault
+abbrev pub IsServedBy : Command → Problem → Type 0
+IsServedBy Plain p = IsThinProblem p
+IsServedBy Check p = Unit {0}
+
+-- the command refuses the text
+abbrev pub IsRefusedBy : Command → List ℕ → Type 0
+IsRefusedBy Plain text = IsRefused text ⊎ IsNotYet text
+IsRefusedBy Check text = IsRefused text
+
+-- what the command writes for a problem that it serves
+abbrev pub bytes_of : Command → Problem → List ℕ
+bytes_of Plain p = dump_text p []
+bytes_of Check p = line (codes "accepted")

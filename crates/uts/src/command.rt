@@ -1,0 +1,46 @@
+ghost use Rattle.std.specs.Prelude.{◌↔◌, IsTrue};
+
+use problem_types::{Problem, is_thin};
+
+/// What the program is asked to do with the source's problem.
+#[derive(Clone, Copy, Debug, PartialEq, Eq)]
+pub enum Command {
+    /// To write its dump.
+    Plain,
+    /// To tell whether it has a fault.
+    Check,
+}
+
+impl Command {
+    ghost use Rattle.uts.specs.Commands.{IsNamed, AsksFor, IsServedBy};
+
+    fn named(name: &str) -> Option<Command>
+        ensures { IsNamed name.now result }
+    {
+        match name {
+            "plain" => Some(Command::Plain),
+            "check" => Some(Command::Check),
+            _ => None,
+        }
+    }
+
+    /// The command that the words are.
+    pub fn of_words(words: &[String]) -> Option<Command>
+        ensures { AsksFor words.now result }
+    {
+        match words {
+            [word] => Command::named(word.as_str()),
+            _ => None,
+        }
+    }
+
+    /// Whether the command does its work with this problem, where the problem has no fault.
+    pub fn serves(self, problem: &Problem) -> bool
+        ensures { IsTrue result ↔ IsServedBy self problem.now }
+    {
+        match self {
+            Command::Plain => is_thin(problem),
+            Command::Check => true,
+        }
+    }
+}
