@@ -3,6 +3,8 @@
 
 mod checked;
 mod checking;
+#[cfg(test)]
+mod checking_tests;
 mod fault;
 mod keeps;
 mod kinds;
