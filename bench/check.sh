@@ -1,0 +1,77 @@
+#!/usr/bin/env bash
+# Times `uts check` on texts with levels of 1,024 patches, in one run on one machine: the best of three wall-clock times of each, the
+# most memory that it took, and what it answered. The program has to be built.
+set -eu
+
+top=$(dirname -- "$(dirname -- "$(readlink -f -- "${BASH_SOURCE[0]}")")")
+program=$top/crates/uts/out/uts
+room=$(mktemp -d)
+trap 'rm -rf -- "$room"' EXIT
+
+[ -x "$program" ] || { echo "build the program first: ./uts.sh check < examples/diffusion.uts"; exit 1; }
+
+# A level of 32 x 32 x 1 cells in 1,024 patches of one cell, 8 materials, and so many variables of which each is required with 8 layers.
+windows() {
+    awk -v variables="$1" 'BEGIN {
+        print "problem 1\nsteps 0\ndump 1\nghost 8\nmaterials 8\nlevel ratio 1\nbox 0 0 0 32 32 1"
+        for (y = 0; y < 32; y++) for (x = 0; x < 32; x++) print "patch", x, y, 0, x + 1, y + 1, 1
+        for (v = 0; v < variables; v++) print "var v" v " cell outside 0"
+        print "init"
+        for (v = 0; v < variables; v++) print "task a" v " levels 0 materials 0 1 2 3 4 5 6 7\ncomputes v" v " = 0"
+        print "timestep"
+        for (v = 0; v < variables; v++)
+            print "task b" v " levels 0 materials 0 1 2 3 4 5 6 7\nrequires old v" v " cells 8\ncomputes v" v " = old.v" v "[1,0,0]"
+        print "end"
+    }'
+}
+
+# Four levels of 1,024 patches in a row, and in each list so many tasks with so many requirements of one kind each.
+many() {
+    awk -v tasks="$1" -v variables="$2" -v layers="$3" 'BEGIN {
+        print "problem 1\nsteps 0\ndump 1\nghost 8\nmaterials 1"
+        for (level = 0; level < 4; level++) {
+            wide = 2 ^ level
+            high = level < 3 ? wide : 4
+            print "level ratio", (level ? 2 : 1)
+            print "box 0 0 0", wide, wide, 1024 * high
+            for (z = 0; z < 1024; z++) print "patch 0 0", z * high, wide, wide, (z + 1) * high
+        }
+        for (v = 0; v < variables; v++) print "var v" v " cell outside 0"
+        for (t = 0; t < tasks; t++) print "reduction r" t " sum"
+        for (list = 0; list < 2; list++) {
+            print (list ? "timestep" : "init") "\ntask c levels 0 1 2 3 materials 0"
+            for (v = 0; v < variables; v++) print "computes v" v " = 0"
+            for (t = 0; t < tasks; t++) {
+                print "task t" t " levels 0 1 2 3 materials 0"
+                for (v = 0; v < variables; v++) print "requires new v" v, layers
+                print "reduces r" t " cell = 0"
+            }
+        }
+        print "end"
+    }'
+}
+
+# A text of about a million bytes: one task that requires the same 50,000 times.
+repeated() {
+    printf '%s\n' "problem 1" "steps 0" "dump 1" "ghost 8" "materials 1" "level ratio 1" "box 0 0 0 1 1 1" "patch 0 0 0 1 1 1" \
+        "var u cell outside 0" init "task a levels 0 materials 0" "computes u = 0" timestep "task a levels 0 materials 0"
+    yes "requires old u none" | head -n 50000
+    printf '%s\n' "computes u = 0" end
+}
+
+measure() {
+    local best=999 seconds answer memory
+    for _ in 1 2 3; do
+        /usr/bin/time -f '%e %M' -o "$room/time" "$program" check <"$room/text" >"$room/out" 2>"$room/err" || true
+        read -r seconds memory <<<"$(tail -n 1 -- "$room/time")"
+        best=$(printf '%s\n%s\n' "$best" "$seconds" | sort -g | head -n 1)
+    done
+    answer=$(cat -- "$room/out" "$room/err")
+    printf '%-34s %6s s %8s kB   %s\n' "$1" "$best" "$memory" "$answer"
+}
+
+windows 1 >"$room/text" && measure "windows of 8 layers, one variable"
+windows 2 >"$room/text" && measure "the same, two variables"
+many 15 33 none >"$room/text" && measure "3,960 windows without layers"
+many 8 30 "cells 1" >"$room/text" && measure "1,920 windows of one layer"
+repeated >"$room/text" && measure "50,000 equal requirements"
