@@ -3,6 +3,8 @@
 
 mod command;
 mod failure;
+#[cfg(test)]
+mod faults_tests;
 mod laws;
 #[cfg(test)]
 mod refusals_tests;

@@ -7,7 +7,7 @@ use std::test::Fail;
 const FINER_LEVEL: &str = "level ratio 2\nbox 0 0 0 2 2 2\npatch 0 0 0 2 2 2\n";
 
 /// Whether each command refuses the text by these words.
-fn is_refused(alloc: Global, text: &str, words: &str) -> Result<bool, Fail> {
+pub(crate) fn is_refused(alloc: Global, text: &str, words: &str) -> Result<bool, Fail> {
     let line = format!(in alloc; "refused: {words}\n")?;
     for word in ["check", "plain"] {
         let answer = call(alloc, word, text.as_bytes(), &CALM)?;
