@@ -72,6 +72,6 @@ measure() {
 
 windows 1 >"$room/text" && measure "windows of 8 layers, one variable"
 windows 2 >"$room/text" && measure "the same, two variables"
-many 15 33 none >"$room/text" && measure "3,960 windows without layers"
+many 14 33 none >"$room/text" && measure "3,696 windows without layers"
 many 8 30 "cells 1" >"$room/text" && measure "1,920 windows of one layer"
 repeated >"$room/text" && measure "50,000 equal requirements"

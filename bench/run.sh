@@ -2,7 +2,7 @@
 # Times `uts plain` beside a plain Rust program that does the same work, in one run on one machine: 64 x 64 x 64
 # cells, seven reads a cell, 50 steps, the dump thrown away. Prints the best of three times of each, their ratio and
 # the most memory that each took, and how long texts of about a million bytes take: one of many tasks, which is read whole and
-# told to be not yet run (and printed, where the program reprint is built), and one that is no problem, which is refused.
+# refused for its first fault (and printed, where the program reprint is built), and one that is no problem, which is refused.
 # Before that it compares what both write, on a small problem and on the examples. Needs rustc.
 set -eu
 
