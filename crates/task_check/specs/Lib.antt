@@ -7,6 +7,7 @@ pub mod Parts
 pub mod Plan
 pub mod Counts
 pub mod Reaches
+pub mod Kept
 pub mod PlanSums
 pub mod Reading
 pub mod OldSlots

@@ -1,6 +1,7 @@
 //! How large the plan of a list of tasks is.
 mod details;
 mod gathered;
+mod kept;
 pub(crate) mod limits;
 mod old_reads;
 mod old_slots;

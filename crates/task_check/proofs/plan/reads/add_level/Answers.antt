@@ -35,9 +35,11 @@ overflow_add-total c =
     )
 
 pub returns-in_err-total : goal.returns-in_err-total
-returns-in_err-total c =
-    given_up (c.args.before + level_reads c.args.p.now c.args.t.now c.args.level) c.from_residual.result c.from_residual.ensures
-    (times_above (length c.args.t.now.materials) (requirement_reads c.args.p.now c.args.t.now c.args.level) c.args.t.now.requirements c.as_slice-r-items.result.now
-    c.loop-r.r-index _ c.args.before c.loop-r.total c.len-materials.result c.requirement_reads.result c.as_slice-r-items.ensures c.loop-r-test.true
-    c.loop-r.invariant.count c.len-materials.ensures c.requirement_reads.ensures.reads
-    (above_limit (c.loop-r.total + c.len-materials.result * c.requirement_reads.result) c.up_to_limit.result c.in_err-total.was c.up_to_limit.ensures))
+returns-in_err-total c = record {
+  total = given_up (c.args.before + level_reads c.args.p.now c.args.t.now c.args.level) c.from_residual.result c.from_residual.ensures
+      (times_above (length c.args.t.now.materials) (requirement_reads c.args.p.now c.args.t.now c.args.level) c.args.t.now.requirements c.as_slice-r-items.result.now
+      c.loop-r.r-index _ c.args.before c.loop-r.total c.len-materials.result c.requirement_reads.result c.as_slice-r-items.ensures c.loop-r-test.true
+      c.loop-r.invariant.count c.len-materials.ensures c.requirement_reads.ensures.reads
+      (above_limit (c.loop-r.total + c.len-materials.result * c.requirement_reads.result) c.up_to_limit.result c.in_err-total.was c.up_to_limit.ensures));
+  kept = c.requirement_reads.ensures.kept;
+}

@@ -14,7 +14,7 @@ returns-in_err-total c =
     let tasks : List Task = task_list c.args.p.now c.args.list in
     let above = total_above (task_reads c.args.p.now) tasks c.tasks-t-items.result.now c.loop-t.t-index c.t-item.result 0 c.loop-t.total
     (task_reads c.args.p.now c.t-item.result) c.tasks-t-items.ensures c.loop-t-test.true (omega (arith, c.loop-t.invariant.count))
-    (ap (task_reads c.args.p.now) c.t-item.is) c.in_err-total.ensures in
+    (ap (task_reads c.args.p.now) c.t-item.is) c.in_err-total.ensures.total in
     given_up (read_count c.args.p.now tasks) c.from_residual.result c.from_residual.ensures
     (omega (arith, above, read_count_is c.args.p.now c.requires.form c.requires.faultless c.args.list c.requires.list))
 
