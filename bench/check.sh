@@ -51,6 +51,38 @@ many() {
     }'
 }
 
+# Four levels of 1,024 patches in a row, and in each list windows of 27 kinds around variables of five centrings.
+different() {
+    awk 'BEGIN {
+        split("cell node facex facey facez", centrings, " ")
+        split("cells nodes facex facey facez", layers, " ")
+        kinds[0] = "none"
+        for (n = 1; n <= 8; n++) for (k = 1; k <= 5; k++) kinds[(n - 1) * 5 + k] = layers[k] " " n
+        print "problem 1\nsteps 0\ndump 1\nghost 8\nmaterials 1"
+        for (level = 0; level < 4; level++) {
+            print "level ratio", (level ? 2 : 1)
+            print "box 0 0 0 4 4 4096"
+            for (z = 0; z < 4096; z += 4) print "patch 0 0", z, 4, 4, z + 4
+        }
+        for (v = 0; v < 60; v++) print "var v" v, centrings[v % 5 + 1], "outside 0"
+        print "reduction r0 sum\nreduction r1 sum\nreduction r2 sum"
+        for (list = 0; list < 2; list++) {
+            print (list ? "timestep" : "init") "\ntask c levels 0 1 2 3 materials 0"
+            for (v = 0; v < 60; v++) print "computes v" v " = 0"
+            count = 0
+            for (t = 0; t < 3; t++) {
+                print "task t" t " levels 0 1 2 3 materials 0"
+                for (v = 0; v < 55 && count < 132; v++) {
+                    print "requires new v" v, kinds[int(count / 5) % 41]
+                    count += 1
+                }
+                print "reduces r" t " cell = 0"
+            }
+        }
+        print "end"
+    }'
+}
+
 # A text of about a million bytes: one task that requires the same 50,000 times.
 repeated() {
     printf '%s\n' "problem 1" "steps 0" "dump 1" "ghost 8" "materials 1" "level ratio 1" "box 0 0 0 1 1 1" "patch 0 0 0 1 1 1" \
@@ -74,4 +106,5 @@ windows 1 >"$room/text" && measure "windows of 8 layers, one variable"
 windows 2 >"$room/text" && measure "the same, two variables"
 many 14 33 none >"$room/text" && measure "3,696 windows without layers"
 many 8 30 "cells 1" >"$room/text" && measure "1,920 windows of one layer"
+different >"$room/text" && measure "1,056 windows of 135 kinds"
 repeated >"$room/text" && measure "50,000 equal requirements"
