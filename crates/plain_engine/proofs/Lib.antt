@@ -1,8 +1,10 @@
-pub mod Cells
-pub mod Kernels
 pub mod Lists
-pub mod Places
+pub mod Changed
 pub mod Rows
+pub mod Alike
 pub mod Steps
-pub mod Thin
+pub mod SmallSpans
+pub mod KernelsOn
+pub mod FromTheEnd
+pub mod Given
 pub mod Writing

@@ -1,181 +1,81 @@
--- Lists over the numbers below a bound: equal items, items by place, and the words of spans.
-use Rattle.std.proofs.Common.{true, if◌then◌else◌, ◌≡◌, ◌∙◌, ◌≤◌, ◌<◌, ◌+◌, ◌-◌, ◌*◌, ◌⊎◌, inl, inr, ℕ, zero, suc, ℤ, pos, List, [], ◌∷◌, ◌++◌, map, length, slice_index_or, ap, sym, refl, arith, append-nil, length-append}
-use Rattle.std.proofs.Math.Nat.{eq-or-lt_of_le, mul-suc, mul-le-mul_left}
-use Rattle.std.specs.Prelude.{int_lt}
-use Rattle.std.specs.List.{flat_map}
-use Rattle.std.proofs.lemmas.Grind.{flat_map-append}
-use Rattle.std.proofs.lemmas.List.{map-append, get_or-append_right}
-use Rattle.std.proofs.Math.ListN.{get_or-append}
-use Rattle.uts_geom.specs.declared.index.Index.{Index}
-use Rattle.uts_geom.specs.Spans.{index, counted, from_to, row_indexes, all_rows}
-use Rattle.problem_types.specs.Dump.{row_line, rows_text}
-use Rattle.plain_engine.specs.Stored.{cells_of}
-use Rattle.plain_engine.specs.Below.{listed, joined}
-use Rattle.plain_engine.specs.Cells.{cell, row_of_cells, numbers_of_cells, lines_of_cells}
-use Rattle.plain_engine.proofs.Rows.{length-listed}
+-- Lists for each item of a list, joined.
+use Rattle.std.proofs.Common.{◌≡◌, ◌∙◌, ℕ, zero, suc, ◌+◌, ◌<◌, List, [], ◌∷◌, ◌++◌, map, length, All, Bool, true, false, ◌||◌, Contains, ap, sym, refl, arith, append_assoc, append-nil, fold, take, get_or, slice_index_or}
+use Rattle.std.specs.List.{flat_map, list_any}
+use Rattle.std.proofs.lemmas.Bool.{or_left, or_right}
+use Rattle.std.proofs.lemmas.List.{map-append, take_more}
+use Rattle.std.proofs.lemmas.List.Concat.{flat_map-append}
+use Rattle.std.proofs.lemmas.List.Elements.{All-head, All-tail, All-nil, All-append, All-push, All-weaker}
+use Rattle.std.proofs.lemmas.List.Sums.{fold-append}
+use Rattle.uts_geom.specs.Spans.{counted}
 
-pub listed-ext : {A : Type 0} (f g : ℕ → A) (n : ℕ) → ((k : ℕ) → k < n → f k ≡ g k) → listed f n ≡ listed g n
-listed-ext f g zero same = refl
-listed-ext f g (suc n) same =
-    ap (λ t. t ++ f n ∷ []) (listed-ext f g n (λ k h. same k (omega arith)))
-    ∙ ap (λ x. listed g n ++ x ∷ []) (same n (omega arith))
+pub flat_map-flat_map : {X Y A : Type 0} (g : Y → List A) (h : X → List Y) (xs : List X) →
+    flat_map g (flat_map h xs) ≡ flat_map (λ x. flat_map g (h x)) xs
+flat_map-flat_map g h [] = refl
+flat_map-flat_map g h (x ∷ xs) =
+    flat_map-append g (h x) (flat_map h xs) ∙ ap (λ rest. flat_map g (h x) ++ rest) (flat_map-flat_map g h xs)
 
-pub joined-ext : {A : Type 0} (f g : ℕ → List A) (n : ℕ) → ((k : ℕ) → k < n → f k ≡ g k) → joined f n ≡ joined g n
-joined-ext f g zero same = refl
-joined-ext f g (suc n) same =
-    ap (λ t. t ++ f n) (joined-ext f g n (λ k h. same k (omega arith)))
-    ∙ ap (λ x. joined g n ++ x) (same n (omega arith))
+pub map-flat_map : {X Y A : Type 0} (f : Y → A) (h : X → List Y) (xs : List X) →
+    map f (flat_map h xs) ≡ flat_map (λ x. map f (h x)) xs
+map-flat_map f h [] = refl
+map-flat_map f h (x ∷ xs) =
+    map-append f (h x) (flat_map h xs) ∙ ap (λ rest. map f (h x) ++ rest) (map-flat_map f h xs)
 
--- functions that agree at the cells
-abbrev pub AgreeAtCells : (Index → ℤ) → (Index → ℤ) → ℕ → ℕ → ℕ → Type 0
-AgreeAtCells f g x y z = (a b c : ℕ) → a < x → b < y → c < z → f (cell a b c) ≡ g (cell a b c)
+pub flat_map-none : {X A : Type 0} (f : X → List A) → ((x : X) → f x ≡ []) → (xs : List X) → flat_map f xs ≡ []
+flat_map-none f none [] = refl
+flat_map-none f none (x ∷ xs) = ap (λ first. first ++ flat_map f xs) (none x) ∙ flat_map-none f none xs
 
-row_of_cells-ext : (f g : Index → ℤ) (x y z b c : ℕ) → AgreeAtCells f g x y z → b < y → c < z →
-    row_of_cells f x b c ≡ row_of_cells g x b c
-row_of_cells-ext f g x y z b c same in_y in_z = listed-ext _ _ x (λ a h. same a b c h in_y in_z)
+-- one item more
+pub flat_map-more : {X A : Type 0} (f : X → List A) (xs : List X) (x : X) → flat_map f (xs ++ x ∷ []) ≡ flat_map f xs ++ f x
+flat_map-more f xs x = flat_map-append f xs (x ∷ []) ∙ ap (λ last. flat_map f xs ++ last) (append-nil (f x))
 
-pub numbers_of_cells-ext : (f g : Index → ℤ) (x y z : ℕ) → AgreeAtCells f g x y z →
-    numbers_of_cells f x y z ≡ numbers_of_cells g x y z
-numbers_of_cells-ext f g x y z same =
-    joined-ext _ _ z (λ c in_z. joined-ext _ _ y (λ b in_y. row_of_cells-ext f g x y z b c same in_y in_z))
+-- two functions that agree
+pub flat_map-same : {X A : Type 0} (f g : X → List A) → ((x : X) → f x ≡ g x) → (xs : List X) → flat_map f xs ≡ flat_map g xs
+flat_map-same f g same [] = refl
+flat_map-same f g same (x ∷ xs) =
+    ap (λ first. first ++ flat_map f xs) (same x) ∙ ap (λ rest. g x ++ rest) (flat_map-same f g same xs)
 
-pub lines_of_cells-ext : (f g : Index → ℤ) (x y z : ℕ) → AgreeAtCells f g x y z →
-    lines_of_cells f x y z ≡ lines_of_cells g x y z
-lines_of_cells-ext f g x y z same =
-    joined-ext _ _ z (λ c in_z. joined-ext _ _ y (λ b in_y. ap row_line (row_of_cells-ext f g x y z b c same in_y in_z)))
+-- two functions that agree where a fact holds, which it does of each item
+module _ {X A : Type 0} (P : X → Type 0) where
+  pub map-alike : (f g : X → A) → ((x : X) → P x → f x ≡ g x) → (xs : List X) → All P xs → map f xs ≡ map g xs
+  map-alike f g same [] each = refl
+  map-alike f g same (x ∷ xs) each =
+      ap (λ y. y ∷ map f xs) (same x (All-head P x xs each)) ∙ ap (λ ys. g x ∷ ys) (map-alike f g same xs (All-tail P x xs each))
 
-map-counted : {A : Type 0} (f : ℕ → A) (n : ℕ) → map f (counted 0 n) ≡ listed f n
-map-counted f zero = refl
-map-counted f (suc n) =
-    map-append f (counted 0 n) ((0 + n) ∷ [])
-    ∙ ap (λ t. t ++ f (0 + n) ∷ []) (map-counted f n)
-    ∙ ap (λ k. listed f n ++ f k ∷ []) (let e : 0 + n ≡ n = omega arith in e)
+  pub flat_map-alike : (f g : X → List A) → ((x : X) → P x → f x ≡ g x) → (xs : List X) → All P xs → flat_map f xs ≡ flat_map g xs
+  flat_map-alike f g same [] each = refl
+  flat_map-alike f g same (x ∷ xs) each =
+      ap (λ first. first ++ flat_map f xs) (same x (All-head P x xs each))
+      ∙ ap (λ rest. g x ++ rest) (flat_map-alike f g same xs (All-tail P x xs each))
 
-pub flat_map-counted : {A : Type 0} (f : ℕ → List A) (n : ℕ) → flat_map f (counted 0 n) ≡ joined f n
-flat_map-counted f zero = refl
-flat_map-counted f (suc n) =
-    flat_map-append f (counted 0 n) ((0 + n) ∷ [])
-    ∙ ap (λ t. flat_map f (counted 0 n) ++ t) (append-nil (f (0 + n)))
-    ∙ ap (λ k. flat_map f (counted 0 n) ++ f k) (let e : 0 + n ≡ n = omega arith in e)
-    ∙ ap (λ t. t ++ f n) (flat_map-counted f n)
+-- one list more to combine
+pub fold-flat_map-more : {X A B : Type 0} (f : B → A → B) (start total next : B) (g : X → List A) (xs : List X) (x : X) →
+    total ≡ fold f start (flat_map g xs) → next ≡ fold f total (g x) → next ≡ fold f start (flat_map g (xs ++ x ∷ []))
+fold-flat_map-more f start total next g xs x before is =
+    is ∙ ap (λ t. fold f t (g x)) before ∙ sym (fold-append f start (flat_map g xs) (g x))
+    ∙ ap (fold f start) (sym (flat_map-more g xs x))
 
-map-listed : {A B : Type 0} (g : A → B) (f : ℕ → A) (n : ℕ) → map g (listed f n) ≡ listed (λ k. g (f k)) n
-map-listed g f zero = refl
-map-listed g f (suc n) = map-append g (listed f n) (f n ∷ []) ∙ ap (λ t. t ++ g (f n) ∷ []) (map-listed g f n)
+-- one item more of a list, by its place
+pub flat_map-take : {X A : Type 0} (f : X → List A) (before next : List A) (xs : List X) (i : ℕ) (x : X) → i < length xs → x ≡ get_or xs i x →
+    before ≡ flat_map f (take i xs) → next ≡ before ++ f x → next ≡ flat_map f (take (i + 1) xs)
+flat_map-take f before next xs i x below at is then =
+    then ∙ ap (λ front. front ++ f x) is ∙ sym (flat_map-more f (take i xs) x)
+    ∙ ap (flat_map f) (ap (λ y. take i xs ++ y ∷ []) at ∙ sym (take_more xs i x below))
 
-flat_map-listed : {A B : Type 0} (g : A → List B) (f : ℕ → A) (n : ℕ) → flat_map g (listed f n) ≡ joined (λ k. g (f k)) n
-flat_map-listed g f zero = refl
-flat_map-listed g f (suc n) =
-    flat_map-append g (listed f n) (f n ∷ [])
-    ∙ ap (λ t. flat_map g (listed f n) ++ t) (append-nil (g (f n)))
-    ∙ ap (λ t. t ++ g (f n)) (flat_map-listed g f n)
+-- what holds of each part of each list
+pub All-flat_map : {X A : Type 0} (P : A → Type 0) (f : X → List A) (xs : List X) → All (λ x. All P (f x)) xs → All P (flat_map f xs)
+All-flat_map P f [] each = All-nil P
+All-flat_map P f (x ∷ xs) each =
+    All-append P (f x) (flat_map f xs) (All-head (λ x. All P (f x)) x xs each) (All-flat_map P f xs (All-tail (λ x. All P (f x)) x xs each))
 
-flat_map-joined : {A B : Type 0} (g : A → List B) (f : ℕ → List A) (n : ℕ) →
-    flat_map g (joined f n) ≡ joined (λ k. flat_map g (f k)) n
-flat_map-joined g f zero = refl
-flat_map-joined g f (suc n) =
-    flat_map-append g (joined f n) (f n) ∙ ap (λ t. t ++ flat_map g (f n)) (flat_map-joined g f n)
+-- counted numbers are below their end
+pub All-counted : (n : ℕ) → All (λ k. k < n) (counted 0 n)
+All-counted zero = All-nil (λ k. k < 0)
+All-counted (suc n) =
+    All-push (λ k. k < suc n) (counted 0 n) (0 + n) (All-weaker (λ k. k < n) (λ k. k < suc n) (λ k below. omega arith) (counted 0 n) (All-counted n)) (omega arith)
 
--- the coordinates from 0 up
-from_to-zero : (n : ℕ) → from_to (pos 0) (pos n) ≡ listed pos n
-from_to-zero n =
-    ap (λ count. map (λ k. pos (0 + k)) (counted 0 count)) (let e : n - 0 ≡ n = omega arith in e)
-    ∙ map-counted (λ k. pos (0 + k)) n
-    ∙ listed-ext (λ k. pos (0 + k)) pos n (λ k h. ap pos (let e : 0 + k ≡ k = omega arith in e))
-
-module _ (f : Index → ℤ) (x y z : ℕ) where
-  -- the numbers along a row
-  row-cells : (b c : ℕ) → map f (row_indexes (cells_of x y z) (pos b) (pos c)) ≡ row_of_cells f x b c
-  row-cells b c =
-      ap (λ t. map f (map (λ k. index k (pos b) (pos c)) t)) (from_to-zero x)
-      ∙ ap (map f) (map-listed (λ k. index k (pos b) (pos c)) pos x)
-      ∙ map-listed f (λ a. cell a b c) x
-
-  -- the line of a row
-  line_of : ℤ × ℤ → List ℕ
-  line_of row = row_line (map f (row_indexes (cells_of x y z) row.0 row.1))
-
-  line-cells : (b c : ℕ) → line_of (pos b, pos c) ≡ row_line (row_of_cells f x b c)
-  unfolding line_of
-  line-cells b c = ap row_line (row-cells b c)
-
-  -- the lines of the rows with one z
-  plane-cells : (c : ℕ) →
-      flat_map line_of (flat_map (λ (b : ℤ). (b, pos c) ∷ []) (from_to (pos 0) (pos y))) ≡ joined (λ b. row_line (row_of_cells f x b c)) y
-  plane-cells c =
-      let rows : ℕ → List (ℤ × ℤ) = λ b. (pos b, pos c) ∷ [] in
-      ap (λ t. flat_map line_of (flat_map (λ (b : ℤ). (b, pos c) ∷ []) t)) (from_to-zero y)
-      ∙ ap (flat_map line_of) (flat_map-listed (λ (b : ℤ). (b, pos c) ∷ []) pos y)
-      ∙ flat_map-joined line_of rows y
-      ∙ joined-ext _ _ y (λ b h. append-nil (line_of (pos b, pos c)) ∙ line-cells b c)
-
-  all-cells : flat_map line_of (all_rows (cells_of x y z)) ≡ lines_of_cells f x y z
-  all-cells =
-      let planes : ℤ → List (ℤ × ℤ) = λ c. flat_map (λ b. (b, c) ∷ []) (from_to (pos 0) (pos y)) in
-      ap (λ t. flat_map line_of (flat_map planes t)) (from_to-zero z)
-      ∙ ap (flat_map line_of) (flat_map-listed planes pos z)
-      ∙ flat_map-joined line_of (λ c. planes (pos c)) z
-      ∙ joined-ext _ _ z (λ c h. plane-cells c)
-
-  -- the lines of all rows of the cells from 0 0 0 up
-  pub lines-cells : 0 < x → rows_text (cells_of x y z) f ≡ lines_of_cells f x y z
-  unfolding rows_text line_of
-  lines-cells some =
-      let wide : int_lt (pos 0) (pos x) ≡ true = grind arith in
-      ap (λ b. flat_map line_of (if b then all_rows (cells_of x y z) else [])) wide ∙ all-cells
-
--- items by place, in lists of one length
-module _ {A : Type 0} (f : ℕ → List A) (w : ℕ) (d : A) (even : (j : ℕ) → length (f j) ≡ w) where
-  pub length-joined : (n : ℕ) → length (joined f n) ≡ w * n
-  length-joined zero = omega arith
-  length-joined (suc n) = length-append (joined f n) (f n) ∙ omega (arith, length-joined n, even n, mul-suc w n)
-
-  pub at_place : (n i k : ℕ) → i < n → k < w → slice_index_or (joined f n) (k + w * i) d ≡ slice_index_or (f i) k d
-  at_place zero i k below within = absurd (omega arith)
-  at_place (suc n) i k below within =
-      by_case (eq-or-lt_of_le (let le : i ≤ n = omega arith in le)) (λ less. at_place n i k less within)
-    where
-      by_case : (i ≡ n) ⊎ (i < n) → (i < n → slice_index_or (joined f n) (k + w * i) d ≡ slice_index_or (f i) k d) →
-          slice_index_or (joined f (suc n)) (k + w * i) d ≡ slice_index_or (f i) k d
-      by_case (inl same) before =
-          let start : w * i ≡ w * n = ap (λ j. w * j) same in
-          get_or-append_right (joined f n) (f n) (w * n) (k + w * i) d (length-joined n) (omega arith)
-          ∙ ap (λ j. slice_index_or (f n) j d) (let e : k + w * i - w * n ≡ k = omega arith in e)
-          ∙ ap (λ j. slice_index_or (f j) k d) (sym same)
-      by_case (inr less) before =
-          let whole : w * (i + 1) ≤ w * n = mul-le-mul_left w (omega arith) in
-          let fits : k + w * i < length (joined f n) = omega (arith, length-joined n, whole) in
-          get_or-append (joined f n) (f n) d (k + w * i) fits ∙ before less
-
-pub listed-at : {A : Type 0} (f : ℕ → A) (n k : ℕ) (d : A) → k < n → slice_index_or (listed f n) k d ≡ f k
-listed-at f zero k d below = absurd (omega arith)
-listed-at f (suc n) k d below =
-    by_case (eq-or-lt_of_le (let le : k ≤ n = omega arith in le)) (λ less. listed-at f n k d less)
-  where
-    by_case : (k ≡ n) ⊎ (k < n) → (k < n → slice_index_or (listed f n) k d ≡ f k) →
-        slice_index_or (listed f (suc n)) k d ≡ f k
-    by_case (inl same) before =
-        get_or-append_right (listed f n) (f n ∷ []) n k d (length-listed f n) (omega arith)
-        ∙ ap (λ j. slice_index_or (f n ∷ []) j d) (let e : k - n ≡ 0 = omega arith in e)
-        ∙ ap f (sym same)
-    by_case (inr less) before =
-        let fits : k < length (listed f n) = omega (arith, length-listed f n) in
-        get_or-append (listed f n) (f n ∷ []) d k fits ∙ before less
-
--- the number of a cell stands at its place
-pub numbers_of_cells-at : (f : Index → ℤ) (x y z a b c : ℕ) → a < x → b < y → c < z →
-    slice_index_or (numbers_of_cells f x y z) (a + x * (b + y * c)) (pos 0) ≡ f (cell a b c)
-numbers_of_cells-at f x y z a b c in_x in_y in_z =
-    let row : ℕ → ℕ → List ℤ = λ k j. row_of_cells f x j k in
-    let rows : x * (b + 1) ≤ x * y = mul-le-mul_left x (omega arith) in
-    ap (λ p. slice_index_or (numbers_of_cells f x y z) p (pos 0)) (let e : a + x * (b + y * c) ≡ (a + x * b) + x * y * c = omega arith in e)
-    ∙ at_place (λ k. joined (row k) y) (x * y) (pos 0)
-    (λ k. length-joined (row k) x (pos 0) (λ j. length-listed (λ i. f (cell i j k)) x) y) z c (a + x * b) in_z (omega (arith, rows))
-    ∙ at_place (row c) x (pos 0) (λ j. length-listed (λ i. f (cell i j c)) x) y b a in_y in_x
-    ∙ listed-at (λ i. f (cell i b c)) x a (pos 0) in_x
-
-pub length-numbers_of_cells : (f : Index → ℤ) (x y z : ℕ) → length (numbers_of_cells f x y z) ≡ x * (y * z)
-length-numbers_of_cells f x y z =
-    length-joined (λ k. joined (λ j. row_of_cells f x j k) y) (x * y) (pos 0)
-    (λ k. length-joined (λ j. row_of_cells f x j k) x (pos 0) (λ j. length-listed (λ i. f (cell i j k)) x) y) z
-    ∙ grind arith
+-- a test that an item of the list passes
+pub list_any-here : {X : Type 0} (test : X → Bool) (xs : List X) (x : X) → Contains xs x → test x ≡ true → list_any test xs ≡ true
+list_any-here test [] x (k, below, at) passes = absurd (omega arith)
+list_any-here test (y ∷ ys) x (zero, below, at) passes = or_left (test y) (list_any test ys) (rw at passes)
+list_any-here test (y ∷ ys) x (suc k, below, at) passes =
+    or_right (test y) (list_any test ys) (list_any-here test ys x (k, let less : k < length ys = omega arith in less, at) passes)

@@ -1,46 +1,60 @@
--- One more number of a row, and its text.
-use Rattle.std.proofs.Common.{◌≡◌, ◌∙◌, ℕ, zero, suc, ◌+◌, ◌<◌, ℤ, List, [], ◌∷◌, ◌++◌, length, ap, sym, refl, arith, append_assoc, length-append, add-one}
-use Rattle.std.specs.Fmt.{signed_decimal}
-use Rattle.problem_types.specs.Dump.{row_text, row_text-none, row_text-first, row_text-more}
-use Rattle.plain_engine.specs.Below.{listed, joined}
+-- The rows of a span, joined, are its indexes.
+use Rattle.std.proofs.Common.{◌≡◌, ◌∙◌, ℕ, ℤ, pos, negsuc, List, [], ◌∷◌, ◌++◌, ◌+ℤ◌, map, Bool, true, false, Option, None, inl, inr, ap, sym, refl, arith, append-nil, int_lt, fold}
+use Rattle.std.specs.Int.{int_gap}
+use Rattle.std.specs.List.{flat_map}
+use Rattle.std.proofs.lemmas.Int.{ints}
+use Rattle.std.specs.Iterator.{Yields, YieldsFirst}
+use Rattle.std.proofs.lemmas.List.{map-id}
+use Rattle.std.proofs.lemmas.Iterator.Consumers.{YieldsList-from_first, YieldsList-end}
+use Rattle.std.proofs.lemmas.Bool.{cases_Bool}
+use Rattle.uts_geom.specs.Rows.{rows_left}
+use Rattle.uts_geom.specs.declared.row_walk.Rows.{Rows as Walk}
+use Rattle.uts_geom.specs.declared.index.Index.{Index}
+use Rattle.uts_geom.specs.declared.span.Span.{Span}
+use Rattle.uts_geom.specs.Spans.{index, from_to, counted, row_indexes, indexes_of, rows_of, all_rows}
+use Rattle.plain_engine.proofs.Lists.{flat_map-flat_map, map-flat_map, flat_map-none, flat_map-same}
 
-pub length-listed : {A : Type 0} (f : ℕ → A) (n : ℕ) → length (listed f n) ≡ n
-length-listed f zero = refl
-length-listed f (suc n) = length-append (listed f n) (f n ∷ []) ∙ omega (arith, length-listed f n)
+-- a list for each pair
+flat_map-pairs : {X Y A : Type 0} (f : Y × X → List A) (x : X) (ys : List Y) →
+    flat_map f (flat_map (λ y. (y, x) ∷ []) ys) ≡ flat_map (λ y. f (y, x)) ys
+flat_map-pairs f x [] = refl
+flat_map-pairs f x (y ∷ ys) = ap (λ rest. f (y, x) ++ rest) (flat_map-pairs f x ys)
 
--- the first number of a row
-pub text_of_first : (row : List ℤ) (n : ℤ) (old new : List ℕ) → length row ≡ 0 → old ≡ row_text row →
-    new ≡ old ++ signed_decimal n → new ≡ row_text (row ++ n ∷ [])
-text_of_first [] n old new none is put =
-    put ∙ ap (λ t. t ++ signed_decimal n) (is ∙ row_text-none) ∙ sym (row_text-first n)
-text_of_first (m ∷ row) n old new none is put = absurd (omega arith)
+no_gap : (low high : ℤ) → int_lt low high ≡ false → int_gap low high ≡ 0
+no_gap low high none = first_of (grind (arith, ints), omega (arith, ints))
 
--- each later one, after a space
-pub text_of_next : (row : List ℤ) (n : ℤ) (old mid new : List ℕ) → 0 < length row → old ≡ row_text row →
-    mid ≡ old ++ 32 ∷ [] → new ≡ mid ++ signed_decimal n → new ≡ row_text (row ++ n ∷ [])
-text_of_next [] n old mid new some is space put = absurd (omega arith)
-text_of_next (m ∷ row) n old mid new some is space put =
-    put ∙ ap (λ t. t ++ signed_decimal n) (space ∙ ap (λ t. t ++ 32 ∷ []) is)
-    ∙ append_assoc (row_text (m ∷ row)) (32 ∷ []) (signed_decimal n)
-    ∙ sym (row_text-more m row n)
+no_numbers : (low high : ℤ) → int_lt low high ≡ false → from_to low high ≡ []
+no_numbers low high none = ap (λ n. map (λ k. low +ℤ pos k) (counted 0 n)) (no_gap low high none)
 
-pub listed-more : {A : Type 0} (f : ℕ → A) (n : ℕ) → listed f (n + 1) ≡ listed f n ++ f n ∷ []
-listed-more f n = rw add-one refl
+-- what stands for each row of a span, joined, is what stands for each index
+module _ {A : Type 0} (f : Index → A) (s : Span) where
+  abbrev along : ℤ × ℤ → List A
+  along at = map f (row_indexes s at.0 at.1)
 
-pub joined-more : {A : Type 0} (f : ℕ → List A) (n : ℕ) → joined f (n + 1) ≡ joined f n ++ f n
-joined-more f n = rw add-one refl
+  all_joined : flat_map along (all_rows s) ≡ map f (indexes_of s)
+  all_joined =
+      let ys = from_to s.lo.y s.hi.y in
+      let zs = from_to s.lo.z s.hi.z in
+      flat_map-flat_map along (λ z. flat_map (λ y. (y, z) ∷ []) ys) zs
+      ∙ flat_map-same _ _ (λ z. flat_map-pairs along z ys) zs
+      ∙ sym (map-flat_map f (λ z. flat_map (λ y. row_indexes s y z) ys) zs
+      ∙ flat_map-same _ _ (λ z. map-flat_map f (λ y. row_indexes s y z) ys) zs)
 
--- one more number at the end of a row's numbers
-pub numbers_more : (f : ℕ → ℤ) (x : ℕ) (n : ℤ) (start old new : List ℤ) → n ≡ f x →
-    old ≡ start ++ listed f x → new ≡ old ++ n ∷ [] → new ≡ start ++ listed f (x + 1)
-numbers_more f x n start old new at is push =
-    push ∙ ap (λ t. t ++ n ∷ []) is ∙ append_assoc start (listed f x) (n ∷ [])
-    ∙ ap (λ m. start ++ (listed f x ++ m ∷ [])) at ∙ ap (λ t. start ++ t) (sym (listed-more f x))
+  none_joined : int_lt s.lo.x s.hi.x ≡ false → indexes_of s ≡ []
+  none_joined none =
+      flat_map-none _ (λ z. flat_map-none _ (λ y. ap (map (λ x. index x y z)) (no_numbers s.lo.x s.hi.x none)) (from_to s.lo.y s.hi.y)) (from_to s.lo.z s.hi.z)
 
--- one more number at the end of a row's text
-pub text_more : (f : ℕ → ℤ) (x : ℕ) (n : ℤ) (old new : List ℕ) → n ≡ f x →
-    ((row : List ℤ) → length row ≡ x → old ≡ row_text row → new ≡ row_text (row ++ n ∷ [])) →
-    old ≡ row_text (listed f x) → new ≡ row_text (listed f (x + 1))
-text_more f x n old new at put is =
-    put (listed f x) (length-listed f x) is ∙ ap (λ m. row_text (listed f x ++ m ∷ [])) at
-    ∙ ap row_text (sym (listed-more f x))
+  rows_joined : flat_map (λ (at : ℤ × ℤ). map f (row_indexes s at.0 at.1)) (rows_of s) ≡ map f (indexes_of s)
+  rows_joined =
+      elim (cases_Bool (int_lt s.lo.x s.hi.x)) [
+        | inl some ↦ rw some all_joined
+        | inr none ↦ rw none (sym (ap (map f) (none_joined none)))
+      ]
+
+  -- the rows that a walk over the span yielded until its end, joined
+  pub walked : (start t u : Walk) (xs : List (ℤ × ℤ)) (r : Option (ℤ × ℤ)) → rows_left start ≡ rows_of s →
+      Yields (YieldsFirst rows_left) start xs t → r ≡ None → YieldsFirst rows_left t r u →
+      flat_map (λ (at : ℤ × ℤ). map f (row_indexes s at.0 at.1)) xs ≡ map f (indexes_of s)
+  walked start t u xs r left yielded none ended =
+      let all = YieldsList-end (YieldsList-from_first (λ (at : ℤ × ℤ). at) rows_left (rows_of s) left) xs t yielded r u none ended in
+      ap (flat_map along) (sym (map-id xs) ∙ all.0) ∙ rows_joined

@@ -1,7 +1,6 @@
-pub mod Below
-pub mod Cells
-pub mod Parts
-pub mod Places
-pub mod Stored
-pub mod Sweep
-pub mod Writing
+pub mod Changes
+pub mod Sweeps
+pub mod Held
+pub mod Reading
+pub mod Moments
+pub mod Runnable

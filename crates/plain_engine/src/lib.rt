@@ -1,16 +1,23 @@
 //! Runs a problem on one thread, over whole fields.
 #![tactic(auto)]
 
-mod evaluate;
-mod fault;
-mod field;
-mod lines;
-mod parts;
+mod bounds;
+mod fields;
+mod kernels;
+mod memory;
+mod moment;
+mod numbers;
+mod putting;
+mod reducing;
 mod run;
+mod showing;
+mod shown;
+mod spaces;
 mod step;
 mod sweep;
-#[cfg(test)]
-mod tests;
+mod sweeping;
+mod tasks;
+mod written;
 
-pub use fault::RunFault;
+pub use dump_text::RunFault;
 pub use run::run_plain;

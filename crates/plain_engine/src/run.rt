@@ -1,84 +1,131 @@
-ghost use Rattle.std.specs.Prelude.{◌≡◌, ◌==◌, if◌then◌else◌, ◌+◌, ◌*◌, ◌≤◌, ℕ, [], length, OnOk, IfOk, IsErrOf};
-ghost use Rattle.uts_io.specs.Streams.{Rose, grown, GrewByPrefix};
-ghost use Rattle.problem_types.specs.Dump.{dump_text, step_text};
-ghost use Rattle.problem_types.specs.Thin.{Thin, IsThin, IsThinProblem, thin_problem};
-ghost use Rattle.plain_engine.specs.Below.{joined};
-ghost use Rattle.plain_engine.specs.Cells.{numbers_of_cells};
-ghost use Rattle.plain_engine.specs.Parts.{ArePartsOf, next_number, next_text};
-ghost use Rattle.plain_engine.specs.Writing.{Writes};
+//! A run: all steps in order, and their dump.
+ghost use Rattle.std.specs.Prelude.{◌≡◌, ◌+◌, ◌≤◌, [], IfOk, if◌then◌else◌};
+ghost use Rattle.problem_types.specs.Lists.{is_dumped};
+ghost use Rattle.uts_model.specs.Dump.{begin_text, by_dumped_steps, dump_bytes, end_text, shown_at, step_text};
+ghost use Rattle.uts_model.specs.WholeField.{before_step, end_of_step};
+ghost use Rattle.dump_text.specs.Writing.{Writes};
+ghost use Rattle.whole_fields.specs.Shapes.{IsShapesOf};
+ghost use Rattle.whole_fields.specs.Stored.{IsWarehouseOf, state_of};
 
-use crate::fault::RunFault;
-use crate::field::Field;
-use crate::lines::write_line;
-use crate::parts::Parts;
-use crate::step::write_step;
-use crate::sweep::Sweep;
-use problem_types::Problem;
+use crate::bounds::bounds;
+use crate::memory::Memory;
+use crate::showing::show_step;
+use crate::shown::StepRows;
+use crate::step::Step;
+use crate::tasks::end_of_step;
+use dump_text::{RunFault, dump_begin, dump_end};
+use problem_types::NoMemory;
 use std::alloc::Global;
+use task_check::Checked;
 use uts_io::Sink;
+use whole_fields::{Shapes, Warehouse};
 
-/// Runs the problem of a thin text, and writes its dump. After a fault the sink has a prefix of the dump.
-pub fn run_plain<O: Sink>(alloc: Global, problem: &Problem, sink: &mut O) -> Result<(), RunFault>
-    requires { IsThinProblem problem.now }
-    ensures all { OnOk result (O.taken sink.new ≡ grown O.after (O.taken sink.old) (dump_text problem.now [])) }
-    ensures prefix { GrewByPrefix O.after (O.taken sink.old) (O.taken sink.new) (dump_text problem.now []) }
-    ensures fault { IsErrOf result RunFault.SinkFault → Rose (O.faults sink.old) (O.faults sink.new) }
-    ensures never_falls { O.faults sink.old ≤ O.faults sink.new }
+/// The warehouse at the end of a step, by that of the end of the step before.
+fn run_tasks_of(
+    c: &Checked,
+    shapes: &Shapes,
+    number: u32,
+    old: &Warehouse,
+    memory: &mut Memory,
+) -> Result<Warehouse, NoMemory>
+    requires shaped { IsShapesOf c.now shapes.now }
+    requires warehouse { IsWarehouseOf c.now old.now }
+    requires state { state_of c.now old.now ≡ before_step c.now number }
+    ensures warehouse { IfOk result (IsWarehouseOf c.now) }
+    ensures state { IfOk result (λ w. state_of c.now w ≡ end_of_step c.now number) }
 {
-    write_line(sink, b"dump 1\n")?;
-    write_steps(alloc, &Parts::of(problem), sink)?;
-    write_line(sink, b"end\n")
+    let step = Step {
+        checked: c,
+        shapes,
+        number,
+        old,
+    };
+    end_of_step(&step, memory)
 }
 
-/// Runs all steps, and writes what each adds to the dump.
-fn write_steps<O: Sink>(alloc: Global, parts: &Parts, sink: &mut O) -> Result<(), RunFault>
-    ensures { (t : Thin) (line_of : ℕ → ℕ) → IsThin t → ArePartsOf parts.now t →
-        Writes O.after (O.taken sink.old) (O.taken sink.new) (O.faults sink.old) (O.faults sink.new)
-        result (joined (step_text (thin_problem t line_of)) (t.steps + 1)) }
+/// Writes what the dump shows of a step, by the warehouse at its end.
+fn show_end<O: Sink>(
+    alloc: Global,
+    c: &Checked,
+    shapes: &Shapes,
+    number: u32,
+    new: &Warehouse,
+    sink: &mut O,
+) -> Result<(), RunFault>
+    requires shaped { IsShapesOf c.now shapes.now }
+    requires warehouse { IsWarehouseOf c.now new.now }
+    requires within { number ≤ c.now.steps.value }
+    requires state { state_of c.now new.now ≡ end_of_step c.now number }
+    ensures { Writes O.after (O.taken sink.old) (O.taken sink.new) (O.faults sink.old) (O.faults sink.new) result
+        (if is_dumped c.now number then step_text c.now (shown_at c.now number) number else []) }
 {
-    let mut line = Vec::new(alloc);
-    let mut numbers = vec![in alloc; parts.outside; parts.x * (parts.y * parts.z)]?;
-    for step in 0..parts.steps + 1 {
-        numbers = run_step(alloc, parts, step, &numbers, &mut line, sink)?;
+    let end = StepRows {
+        checked: c,
+        shapes,
+        warehouse: new,
+    };
+    show_step(alloc, &end, number, sink)
+}
+
+/// Runs a step, and writes what the dump shows of it. Gives the warehouse at its end.
+fn run_step<O: Sink>(
+    c: &Checked,
+    shapes: &Shapes,
+    number: u32,
+    old: &Warehouse,
+    memory: &mut Memory,
+    sink: &mut O,
+) -> Result<Warehouse, RunFault>
+    requires shaped { IsShapesOf c.now shapes.now }
+    requires warehouse { IsWarehouseOf c.now old.now }
+    requires within { number ≤ c.now.steps.value }
+    requires state { state_of c.now old.now ≡ before_step c.now number }
+    ensures warehouse { IfOk result (IsWarehouseOf c.now) }
+    ensures state { IfOk result (λ w. state_of c.now w ≡ end_of_step c.now number) }
+    ensures written { Writes O.after (O.taken sink.old) (O.taken sink.new) (O.faults sink.old) (O.faults sink.new) result
+        (if is_dumped c.now number then step_text c.now (shown_at c.now number) number else []) }
+{
+    let new = run_tasks_of(c, shapes, number, old, memory).map_err(|_| RunFault::NoMemory)?;
+    show_end(memory.alloc, c, shapes, number, &new, sink)?;
+    Ok(new)
+}
+
+/// Runs all steps, and writes what the dump shows of each.
+fn run_steps<O: Sink>(alloc: Global, c: &Checked, sink: &mut O) -> Result<(), RunFault>
+    ensures { Writes O.after (O.taken sink.old) (O.taken sink.new) (O.faults sink.old) (O.faults sink.new) result
+        (by_dumped_steps c.now (λ step. step_text c.now (shown_at c.now step) step)) }
+{
+    bounds(c);
+    let shapes = Shapes::of(alloc, c).map_err(|_| RunFault::NoMemory)?;
+    let mut memory = Memory::new(alloc)?;
+    let mut old = Warehouse::nothing(alloc, c).map_err(|_| RunFault::NoMemory)?;
+    for number in 0..c.problem().steps.value as u32 + 1 {
+        old = run_step(c, &shapes, number, &old, &mut memory, sink)?;
     }
     Ok(())
 }
 
-/// Runs one step over the numbers that stood before it, and gives those that it leaves.
-fn run_step<O: Sink>(
-    alloc: Global,
-    parts: &Parts,
-    step: u32,
-    numbers: &[i64],
-    line: &mut Vec<u8>,
-    sink: &mut O,
-) -> Result<Vec<i64>, RunFault>
-    requires { parts.now.x * (parts.now.y * parts.now.z) ≡ length numbers.now }
-    ensures numbers { IfOk result (λ next. next.items
-        ≡ numbers_of_cells (next_number parts.now step numbers.now) parts.now.x parts.now.y parts.now.z) }
-    ensures written { Writes O.after (O.taken sink.old) (O.taken sink.new) (O.faults sink.old) (O.faults sink.new)
-        result (next_text parts.now step numbers.now) }
+/// Writes the line that begins a dump.
+fn begin<O: Sink>(sink: &mut O) -> Result<(), RunFault>
+    ensures { Writes O.after (O.taken sink.old) (O.taken sink.new) (O.faults sink.old) (O.faults sink.new) result begin_text }
 {
-    let field = Field {
-        x: parts.x,
-        y: parts.y,
-        z: parts.z,
-        outside: parts.outside,
-        numbers,
-    };
-    let sweep = sweep_of(parts, step, &field);
-    write_step(alloc, parts.name, &sweep, line, sink)
+    dump_begin(sink)?;
+    Ok(())
 }
 
-// The sweep of a step.
-fn sweep_of<'a>(parts: &'a Parts<'a>, step: u32, field: &'a Field<'a>) -> Sweep<'a>
-    ensures kernel { result.kernel.now ≡ (if step == 0 then parts.now.start.now else parts.now.kernel.now) }
-    ensures step { result.step ≡ step }
-    ensures field { result.field.now ≡ field.now }
+/// Writes the end of a dump that no probes watched.
+fn end<O: Sink>(alloc: Global, sink: &mut O) -> Result<(), RunFault>
+    ensures { Writes O.after (O.taken sink.old) (O.taken sink.new) (O.faults sink.old) (O.faults sink.new) result (end_text []) }
 {
-    Sweep {
-        kernel: parts.kernel_of(step),
-        step,
-        field,
-    }
+    dump_end(alloc, sink, &Vec::new(alloc))
+}
+
+/// Runs a problem on one thread, over whole fields, and writes its dump. After an error the sink has taken a prefix of the dump.
+pub fn run_plain<O: Sink>(alloc: Global, c: &Checked, sink: &mut O) -> Result<(), RunFault>
+    ensures written { Writes O.after (O.taken sink.old) (O.taken sink.new) (O.faults sink.old) (O.faults sink.new) result
+        (dump_bytes c.now []) }
+{
+    begin(sink)?;
+    run_steps(alloc, c, sink)?;
+    end(alloc, sink)
 }

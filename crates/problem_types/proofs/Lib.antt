@@ -1,3 +1,1 @@
 pub mod Ascent
-pub mod Judging
-pub mod ThinParts

@@ -2,9 +2,4 @@ pub mod Form
 pub mod Lists
 pub mod Regions
 pub mod Levels
-pub mod WholeField
 pub mod Ascent
-pub mod Dump
-pub mod Thin
-pub mod ThinParts
-pub mod Laws

@@ -1,7 +1,7 @@
 use crate::{
     BoxLine, Centring, Expr, Fold, Ghost, GhostKind, How, Keep, Level, Name, NoMemory, Num, Op,
     Problem, Read, Reduction, Require, Store, Task, Var, What, Write, WriteKind, copy, in_form,
-    is_ascending, is_thin, reduction_of, var_of,
+    is_ascending, reduction_of, var_of,
 };
 use sqlite_items::{Boxed, Items};
 use std::alloc::Global;
@@ -22,14 +22,11 @@ fn read(offset: i64) -> Expr {
     })
 }
 
-// So many reads at an offset along x, added up from the left.
-fn sum(alloc: Global, reads: u32, offset: i64) -> Result<Expr, NoMemory> {
-    let mut sum = read(offset);
-    for _ in 1..reads {
-        let right = Boxed::new(alloc, read(offset))?;
-        sum = Expr::Binary(Op::Add, Boxed::new(alloc, sum)?, right);
-    }
-    Ok(sum)
+// The numbers on both sides along x, added up.
+fn sum(alloc: Global) -> Result<Expr, NoMemory> {
+    let left = Boxed::new(alloc, read(-1))?;
+    let right = Boxed::new(alloc, read(1))?;
+    Ok(Expr::Binary(Op::Add, left, right))
 }
 
 fn names(alloc: Global) -> Result<Items<Name>, NoMemory> {
@@ -71,12 +68,12 @@ fn task(alloc: Global, line: u32, name: u32, write: u32, expr: Expr) -> Result<T
     })
 }
 
-fn shift(alloc: Global, kernel: Expr) -> Result<Task, NoMemory> {
+fn shift(alloc: Global) -> Result<Task, NoMemory> {
     let layers = Ghost {
         kind: GhostKind::Cells,
         n: 8,
     };
-    let mut shift = task(alloc, 14, 2, 16, kernel)?;
+    let mut shift = task(alloc, 14, 2, 16, sum(alloc)?)?;
     shift.requirements.push(Require {
         line: 15,
         store: Store::Old,
@@ -85,8 +82,8 @@ fn shift(alloc: Global, kernel: Expr) -> Result<Task, NoMemory> {
     Ok(shift)
 }
 
-// A thin problem of the greatest size, with 8 ghost cells, but for its kernel.
-fn with_kernel(alloc: Global, kernel: Expr) -> Result<Problem, NoMemory> {
+// One level of one patch, one variable, and one task in each list.
+fn problem(alloc: Global) -> Result<Problem, NoMemory> {
     let num = |line: u32, value: u64| Num { line, value };
     Ok(Problem {
         names: names(alloc)?,
@@ -109,55 +106,15 @@ fn with_kernel(alloc: Global, kernel: Expr) -> Result<Problem, NoMemory> {
         init_line: 10,
         init: one(alloc, task(alloc, 11, 1, 12, Expr::Literal(9))?)?,
         timestep_line: 13,
-        timestep: one(alloc, shift(alloc, kernel)?)?,
+        timestep: one(alloc, shift(alloc)?)?,
         keeps: one(alloc, Keep { line: 17, name: 0 })?,
         end_line: 18,
     })
 }
 
-fn problem(alloc: Global) -> Result<Problem, NoMemory> {
-    with_kernel(alloc, sum(alloc, 2, -1)?)
-}
-
 #[test]
 fn a_name_is_its_bytes(rt: HostRuntime) -> Result<(), Fail> {
     assert_eq!(rt; Name::new(rt.alloc(), b"u")?.bytes(), b"u".as_slice());
-    Ok(())
-}
-
-#[test]
-fn lines_are_no_part_of_what_is_thin(rt: HostRuntime) -> Result<(), Fail> {
-    let mut problem = problem(rt.alloc())?;
-    assert!(rt; is_thin(&problem));
-    problem.version.line = 3;
-    problem.end_line = 40;
-    assert!(rt; is_thin(&problem));
-    problem.version.value = 2;
-    assert!(rt; !is_thin(&problem));
-    Ok(())
-}
-
-#[test]
-fn a_second_keep_is_not_thin(rt: HostRuntime) -> Result<(), Fail> {
-    let mut problem = problem(rt.alloc())?;
-    problem.keeps.push(Keep { line: 18, name: 0 })?;
-    assert!(rt; !is_thin(&problem));
-    Ok(())
-}
-
-// Whether a problem of so many terms is thin, each of which reads at this offset along x.
-fn is_thin_with(alloc: Global, terms: u32, offset: i64) -> Result<bool, NoMemory> {
-    Ok(is_thin(&with_kernel(alloc, sum(alloc, terms, offset)?)?))
-}
-
-#[test]
-fn thin_problems_have_limits(rt: HostRuntime) -> Result<(), Fail> {
-    let alloc = rt.alloc();
-    assert!(rt; is_thin_with(alloc, 64, 8)?);
-    assert!(rt; is_thin_with(alloc, 1, -8)?);
-    assert!(rt; !is_thin_with(alloc, 65, 8)?);
-    assert!(rt; !is_thin_with(alloc, 1, 9)?);
-    assert!(rt; !is_thin_with(alloc, 1, -9)?);
     Ok(())
 }
 

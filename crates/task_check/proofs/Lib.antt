@@ -5,9 +5,11 @@ mod Order
 mod Supplied
 pub mod Accepted
 pub mod Goodness
+pub mod Bounded
 pub mod Ratios
 pub mod Sums
 pub mod Touching
+pub mod Columns
 pub mod AtPlaces
 pub mod Once
 pub mod PlanSums

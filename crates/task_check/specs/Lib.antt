@@ -8,9 +8,11 @@ pub mod Plan
 pub mod Counts
 pub mod Reaches
 pub mod Kept
+pub mod Columns
 pub mod PlanSums
 pub mod Reading
 pub mod OldSlots
 pub mod Tallies
 pub mod Sizes
 pub mod Laws
+pub mod Bounds

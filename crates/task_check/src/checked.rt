@@ -40,7 +40,9 @@ impl Checked {
 
     /// The problem.
     pub fn problem(&self) -> &Problem
-        ensures { result.now ≡ self.now }
+        ensures problem { result.now ≡ self.now }
+        ensures form { IsProblemInForm self.now }
+        ensures accepted { IsAccepted self.now }
     {
         &self.problem
     }

@@ -1,5 +1,5 @@
 //! Laws on the first faults of problems.
-ghost use Rattle.task_check.specs.Laws.{ProblemsAreJudged, FirstFaultsAreOne, AcceptedProblemsHaveNone};
+ghost use Rattle.task_check.specs.Laws.{ProblemsAreJudged, FirstFaultsAreOne, AcceptedProblemsHaveNone, AcceptedProblemsAreBounded};
 
 use uts_geom::spans_hold_their_indexes;
 
@@ -18,4 +18,10 @@ pub fn first_faults_are_one()
 /// An accepted problem has no first fault.
 pub fn accepted_problems_have_none()
     ensures { AcceptedProblemsHaveNone }
+{}
+
+/// An accepted problem keeps the limits, its levels are good, its tasks run on levels and materials that it has, and the names of its
+/// lines are declared.
+pub fn accepted_problems_are_bounded()
+    ensures { AcceptedProblemsAreBounded }
 {}

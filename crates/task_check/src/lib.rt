@@ -25,4 +25,7 @@ mod writes;
 pub use checked::Checked;
 pub use checking::{Refusal, check};
 pub use fault::{Fault, FaultKind, Which};
-pub use laws::{accepted_problems_have_none, first_faults_are_one, problems_are_judged};
+pub use laws::{
+    accepted_problems_are_bounded, accepted_problems_have_none, first_faults_are_one,
+    problems_are_judged,
+};

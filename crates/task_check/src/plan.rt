@@ -1,4 +1,5 @@
 //! How large the plan of a list of tasks is.
+mod columns;
 mod details;
 mod gathered;
 mod kept;

@@ -4,21 +4,20 @@ use Rattle.std.specs.declared.alloc.Global.{Global}
 use Rattle.std.specs.Str.{bytes_eq}
 use Rattle.std.proofs.lemmas.Bool.Decides.{nat_tests}
 use Rattle.std.proofs.lemmas.Slice.Eq.{bytes_eq-Decides}
-use Rattle.problem_types.specs.Dump.{line}
-use Rattle.problem_types.specs.Laws.{ThinProblemsAreJudged}
+use Rattle.uts_model.specs.Dump.{line}
 use Rattle.problem_types.specs.declared.problem.Problem.{Problem}
 use Rattle.problem_file.specs.Grammar.{Spells}
 use Rattle.problem_file.specs.Laws.{OneProblem, OneBadLine, NoProblemWithABadLine, EveryTextIsJudged, ProblemsAreInForm}
 use Rattle.task_check.specs.First.{IsAccepted}
 use Rattle.task_check.specs.Laws.{ProblemsAreJudged, FirstFaultsAreOne, AcceptedProblemsHaveNone}
-use Rattle.uts.specs.Answer.{IsCommand, IsRefused, Answers, usage, refusal, not_yet, accepted, dump, ErrorLine, none, too_long, bad_text, fault, not_yet_line, usage_line}
-use Rattle.uts.specs.Commands.{Asks, IsServedBy, IsRefusedBy, bytes_of}
+use Rattle.uts.specs.Answer.{IsCommand, IsRefused, Answers, usage, refusal, accepted, dump, ErrorLine, none, too_long, bad_text, fault, usage_line}
+use Rattle.uts.specs.Commands.{Asks, bytes_of}
 use Rattle.uts.specs.Laws.{HasOneAnswer, OneAnswer}
 use Rattle.uts.specs.declared.command.Command.{Command}
 use Rattle.uts.specs.declared.command.Command.TheVariants.{Plain, Check}
 use Rattle.uts.proofs.Lines.{only_none, only_usage, only_refusal}
 use Rattle.uts.proofs.Outcomes.{Outcome, refused, done, outcome_of, answer_of}
-use Rattle.uts.proofs.Told.{never_both}
+use Rattle.uts.proofs.Told.{never_refused}
 
 same_or_not : (a b : List ℕ) → (a ≡ b) ⊎ (a ≡ b → ⊥)
 same_or_not a b = by_test (bytes_eq a b) refl
@@ -57,9 +56,8 @@ of_no_command words text other = record {
     only : (status : ℕ) (bytes : List ℕ) → Answers words text status bytes → (status ≡ 2) × (bytes ≡ [])
     only status bytes (usage no_command) = (refl, refl)
     only status bytes (refusal is why) = absurd (other is)
-    only status bytes (not_yet plain why) = absurd (other (inl plain))
     only status bytes (accepted check short p spelled fine) = absurd (other (inr check))
-    only status bytes (dump plain short p spelled fine thin) = absurd (other (inl plain))
+    only status bytes (dump plain short p spelled fine) = absurd (other (inl plain))
 
 -- each text that a command refuses has a line that tells of it
 line_of_refused : (words : List (String Global)) (text : List ℕ) → IsRefused text → (told : List ℕ) × ErrorLine words (Some text) 1 told
@@ -67,30 +65,11 @@ line_of_refused words text (inl long) = (_, too_long long)
 line_of_refused words text (inr (inl (bad, why))) = (_, bad_text bad why)
 line_of_refused words text (inr (inr (at_line, k, why))) = (_, fault at_line k why)
 
-line_of_refusal : (words : List (String Global)) (command : Command) (text : List ℕ) → Asks words command → IsRefusedBy command text →
-    (told : List ℕ) × ErrorLine words (Some text) 1 told
-line_of_refusal words Plain text asks (inl why) = line_of_refused words text why
-line_of_refusal words Plain text asks (inr later) = (_, not_yet_line asks later)
-line_of_refusal words Check text asks why = line_of_refused words text why
-
-refused_of_all : (command : Command) (text : List ℕ) → IsRefused text → IsRefusedBy command text
-refused_of_all Plain text why = inl why
-refused_of_all Check text why = why
-
--- an accepted problem is served by the command, or left for later
-module _ (thins : ThinProblemsAreJudged) (text : List ℕ) (p : Problem) (short : length text ≤ 2 ^ 20) (spelled : Spells text p) (fine : IsAccepted p) where
-  served_or_later : (command : Command) → IsServedBy command p ⊎ IsRefusedBy command text
-  served_or_later Plain = elim (thins p) [
-    | inl thin ↦ inl thin
-    | inr other ↦ inr (inr (record { short = short; problem = p; spelled = spelled; accepted = fine; other = other }))
-  ]
-  served_or_later Check = inl tt
-
 module _ (one_problem : OneProblem) (one_bad_line : OneBadLine) (no_problem : NoProblemWithABadLine) (one_fault : FirstFaultsAreOne)
     (no_fault : AcceptedProblemsHaveNone) (words : List (String Global)) (command : Command) (text : List ℕ) (asks : Asks words command) where
-  of_refused : IsRefusedBy command text → HasOneAnswer words text
+  of_refused : IsRefused text → HasOneAnswer words text
   of_refused why =
-      let told = line_of_refusal words command text asks why in
+      let told = line_of_refused words text why in
       record {
         status = 1;
         bytes = [];
@@ -103,14 +82,14 @@ module _ (one_problem : OneProblem) (one_bad_line : OneBadLine) (no_problem : No
     where
       only : (status : ℕ) (bytes : List ℕ) → Outcome command text status bytes → (status ≡ 1) × (bytes ≡ [])
       only status bytes (refused other) = (refl, refl)
-      only status bytes (done short p spelled fine served) =
-          absurd (never_both one_problem no_problem no_fault command text p short spelled fine served why)
+      only status bytes (done short p spelled fine) =
+          absurd (never_refused one_problem no_problem no_fault text p short spelled fine why)
 
-  of_served : (p : Problem) → length text ≤ 2 ^ 20 → Spells text p → IsAccepted p → IsServedBy command p → HasOneAnswer words text
-  of_served p short spelled fine served = record {
+  of_served : (p : Problem) → length text ≤ 2 ^ 20 → Spells text p → IsAccepted p → HasOneAnswer words text
+  of_served p short spelled fine = record {
     status = 0;
     bytes = bytes_of command p;
-    answers = answer_of words text command 0 (bytes_of command p) asks (done short p spelled fine served);
+    answers = answer_of words text command 0 (bytes_of command p) asks (done short p spelled fine);
     only = λ status bytes answer. only status bytes (outcome_of words text command status bytes asks answer);
     line = [];
     told = none;
@@ -118,34 +97,31 @@ module _ (one_problem : OneProblem) (one_bad_line : OneBadLine) (no_problem : No
   }
     where
       only : (status : ℕ) (bytes : List ℕ) → Outcome command text status bytes → (status ≡ 0) × (bytes ≡ bytes_of command p)
-      only status bytes (refused why) = absurd (never_both one_problem no_problem no_fault command text p short spelled fine served why)
-      only status bytes (done is_short q spells is_fine is_served) = (refl, ap (λ (r : Problem). bytes_of command r) (one_problem text q p spells spelled))
+      only status bytes (refused why) = absurd (never_refused one_problem no_problem no_fault text p short spelled fine why)
+      only status bytes (done is_short q spells is_fine) = (refl, ap (λ (r : Problem). bytes_of command r) (one_problem text q p spells spelled))
 
-  of_problem : ThinProblemsAreJudged → ProblemsAreInForm → ProblemsAreJudged → (p : Problem) → length text ≤ 2 ^ 20 → Spells text p → HasOneAnswer words text
-  of_problem thins forms judged p short spelled = elim (judged p (forms text p spelled (omega arith))) [
-    | inl fine ↦ elim (served_or_later thins text p short spelled fine command) [
-      | inl served ↦ of_served p short spelled fine served
-      | inr later ↦ of_refused later
-    ]
+  of_problem : ProblemsAreInForm → ProblemsAreJudged → (p : Problem) → length text ≤ 2 ^ 20 → Spells text p → HasOneAnswer words text
+  of_problem forms judged p short spelled = elim (judged p (forms text p spelled (omega arith))) [
+    | inl fine ↦ of_served p short spelled fine
     | inr (at_line, k, first) ↦
-        of_refused (refused_of_all command text (inr (inr (at_line, k, record { short = short; problem = p; spelled = spelled; first_fault = first }))))
+        of_refused ((inr (inr (at_line, k, record { short = short; problem = p; spelled = spelled; first_fault = first }))))
   ]
 
-  of_short : ThinProblemsAreJudged → ProblemsAreInForm → ProblemsAreJudged → EveryTextIsJudged → length text ≤ 2 ^ 20 → HasOneAnswer words text
-  of_short thins forms judged texts short = elim (texts text) [
-    | inl problem ↦ of_problem thins forms judged problem.0 short problem.1
-    | inr bad ↦ of_refused (refused_of_all command text (inr (inl (bad.0, record { short = short; first_bad = bad.1 }))))
+  of_short : ProblemsAreInForm → ProblemsAreJudged → EveryTextIsJudged → length text ≤ 2 ^ 20 → HasOneAnswer words text
+  of_short forms judged texts short = elim (texts text) [
+    | inl problem ↦ of_problem forms judged problem.0 short problem.1
+    | inr bad ↦ of_refused ((inr (inl (bad.0, record { short = short; first_bad = bad.1 }))))
   ]
 
 short_or_long : (n most : ℕ) → (n ≤ most) ⊎ (most < n)
 short_or_long n most = grind arith
 
 pub one_answer : OneProblem → OneBadLine → NoProblemWithABadLine → EveryTextIsJudged → ProblemsAreInForm → ProblemsAreJudged → FirstFaultsAreOne →
-    AcceptedProblemsHaveNone → ThinProblemsAreJudged → OneAnswer
-one_answer one_problem one_bad_line no_problem texts forms judged one_fault no_fault thins words text = elim (command_or_not words) [
+    AcceptedProblemsHaveNone → OneAnswer
+one_answer one_problem one_bad_line no_problem texts forms judged one_fault no_fault words text = elim (command_or_not words) [
   | inr other ↦ of_no_command words text other
   | inl (command, asks) ↦ elim (short_or_long (length text) (2 ^ 20)) [
-    | inl short ↦ of_short one_problem one_bad_line no_problem one_fault no_fault words command text asks thins forms judged texts short
-    | inr long ↦ of_refused one_problem one_bad_line no_problem one_fault no_fault words command text asks (refused_of_all command text (inl long))
+    | inl short ↦ of_short one_problem one_bad_line no_problem one_fault no_fault words command text asks forms judged texts short
+    | inr long ↦ of_refused one_problem one_bad_line no_problem one_fault no_fault words command text asks ((inl long))
   ]
 ]

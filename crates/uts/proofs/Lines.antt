@@ -1,13 +1,13 @@
 -- One line on standard error to each status of an answer.
 use Rattle.std.proofs.Common.{◌≡◌, ◌∙◌, ◌≤◌, ◌^◌, ℕ, List, [], length, codes, String, Some, refl, ap, arith, subst}
 use Rattle.std.specs.declared.alloc.Global.{Global}
-use Rattle.problem_types.specs.Dump.{line}
+use Rattle.uts_model.specs.Dump.{line}
 use Rattle.problem_types.specs.declared.problem.Problem.{Problem}
 use Rattle.problem_file.specs.Laws.{OneProblem, OneBadLine, NoProblemWithABadLine}
 use Rattle.task_check.specs.First.{IsFirstFault}
 use Rattle.task_check.specs.Laws.{FirstFaultsAreOne, AcceptedProblemsHaveNone}
 use Rattle.task_check.specs.declared.fault.FaultKind.{FaultKind}
-use Rattle.uts.specs.Answer.{IsTooLong, IsBadText, IsFaulty, IsNotYet, ErrorLine, none, too_long, bad_text, fault, not_yet_line, usage_line, read_fault, write_fault, no_memory, refusal_line}
+use Rattle.uts.specs.Answer.{IsTooLong, IsBadText, IsFaulty, ErrorLine, none, too_long, bad_text, fault, usage_line, read_fault, write_fault, no_memory, refusal_line}
 use Rattle.uts.specs.Words.{fault_words}
 
 -- the line of a text that is refused
@@ -15,7 +15,6 @@ pub data RefusalLine (text : List ℕ) : List ℕ → Type 0 where
   of_long : IsTooLong text → RefusalLine text (line (codes "refused: too long"))
   of_bad : (bad : ℕ) → IsBadText text bad → RefusalLine text (refusal_line (codes "bad text") bad)
   of_fault : (at_line : ℕ) (k : FaultKind) → IsFaulty text at_line k → RefusalLine text (refusal_line (fault_words k) at_line)
-  of_later : IsNotYet text → RefusalLine text (line (codes "refused: not yet"))
 
 module _ (words : List (String Global)) (text : List ℕ) where
   refusal_line_of : (status : ℕ) (told : List ℕ) → ErrorLine words (Some text) status told → status ≡ 1 → RefusalLine text told
@@ -23,7 +22,6 @@ module _ (words : List (String Global)) (text : List ℕ) where
   refusal_line_of status told (too_long why) is = of_long why
   refusal_line_of status told (bad_text bad why) is = of_bad bad why
   refusal_line_of status told (fault at_line k why) is = of_fault at_line k why
-  refusal_line_of status told (not_yet_line plain why) is = of_later why
   refusal_line_of status told (usage_line other) is = absurd (omega arith)
   refusal_line_of status told read_fault is = absurd (omega arith)
   refusal_line_of status told write_fault is = absurd (omega arith)
@@ -34,7 +32,6 @@ module _ (words : List (String Global)) (text : List ℕ) where
   no_line status told (too_long why) is = absurd (omega arith)
   no_line status told (bad_text bad why) is = absurd (omega arith)
   no_line status told (fault at_line k why) is = absurd (omega arith)
-  no_line status told (not_yet_line plain why) is = absurd (omega arith)
   no_line status told (usage_line other) is = absurd (omega arith)
   no_line status told read_fault is = absurd (omega arith)
   no_line status told write_fault is = absurd (omega arith)
@@ -46,7 +43,6 @@ module _ (words : List (String Global)) (text : List ℕ) where
   line_of_usage status told (too_long why) is = absurd (omega arith)
   line_of_usage status told (bad_text bad why) is = absurd (omega arith)
   line_of_usage status told (fault at_line k why) is = absurd (omega arith)
-  line_of_usage status told (not_yet_line plain why) is = absurd (omega arith)
   line_of_usage status told (usage_line other) is = refl
   line_of_usage status told read_fault is = absurd (omega arith)
   line_of_usage status told write_fault is = absurd (omega arith)
@@ -66,31 +62,19 @@ module _ (words : List (String Global)) (text : List ℕ) where
         one_fault two.problem at_line k other_line other
         (subst (λ (q : Problem). IsFirstFault q at_line k) (one_problem text one.problem two.problem one.spelled two.spelled) one.first_fault) two.first_fault
 
-    never_later : (at_line : ℕ) (k : FaultKind) → IsFaulty text at_line k → IsNotYet text → ⊥
-    never_later at_line k faulty later =
-        no_fault later.problem at_line k later.accepted
-        (subst (λ (q : Problem). IsFirstFault q at_line k) (one_problem text faulty.problem later.problem faulty.spelled later.spelled) faulty.first_fault)
-
     one_refusal : (told other : List ℕ) → RefusalLine text told → RefusalLine text other → told ≡ other
     one_refusal told other (of_long long) (of_long why) = refl
     one_refusal told other (of_long long) (of_bad bad why) = let short : length text ≤ 2 ^ 20 = why.short in absurd (omega arith)
     one_refusal told other (of_long long) (of_fault at_line k why) = let short : length text ≤ 2 ^ 20 = why.short in absurd (omega arith)
-    one_refusal told other (of_long long) (of_later why) = let short : length text ≤ 2 ^ 20 = why.short in absurd (omega arith)
     one_refusal told other (of_bad bad one) (of_long why) = let short : length text ≤ 2 ^ 20 = one.short in absurd (omega arith)
     one_refusal told other (of_bad bad one) (of_bad other_bad why) =
         ap (refusal_line (codes "bad text")) (one_bad_line text bad other_bad one.first_bad why.first_bad)
     one_refusal told other (of_bad bad one) (of_fault at_line k why) = absurd (no_problem text bad why.problem one.first_bad why.spelled)
-    one_refusal told other (of_bad bad one) (of_later why) = absurd (no_problem text bad why.problem one.first_bad why.spelled)
     one_refusal told other (of_fault at_line k one) (of_long why) = let short : length text ≤ 2 ^ 20 = one.short in absurd (omega arith)
     one_refusal told other (of_fault at_line k one) (of_bad bad why) = absurd (no_problem text bad one.problem why.first_bad one.spelled)
     one_refusal told other (of_fault at_line k one) (of_fault other_line other_k why) =
         let same = same_fault at_line other_line k other_k one why in
         ap (λ l. refusal_line (fault_words k) l) same.0 ∙ ap (λ (c : FaultKind). refusal_line (fault_words c) other_line) same.1
-    one_refusal told other (of_fault at_line k one) (of_later why) = absurd (never_later at_line k one why)
-    one_refusal told other (of_later one) (of_long why) = let short : length text ≤ 2 ^ 20 = one.short in absurd (omega arith)
-    one_refusal told other (of_later one) (of_bad bad why) = absurd (no_problem text bad one.problem why.first_bad one.spelled)
-    one_refusal told other (of_later one) (of_fault at_line k why) = absurd (never_later at_line k why one)
-    one_refusal told other (of_later one) (of_later why) = refl
 
     -- a text that is refused is told by one line
     pub only_refusal : (told other : List ℕ) → ErrorLine words (Some text) 1 told → ErrorLine words (Some text) 1 other → other ≡ told

@@ -7,24 +7,22 @@ use Rattle.problem_file.specs.Grammar.{Spells}
 use Rattle.problem_file.specs.Laws.{OneProblem, NoProblemWithABadLine}
 use Rattle.task_check.specs.First.{IsAccepted}
 use Rattle.task_check.specs.Laws.{AcceptedProblemsHaveNone}
-use Rattle.uts.specs.Answer.{IsNotYet, IsRefused, Answers, ErrorLine, none, too_long, bad_text, fault, not_yet_line, read_fault, write_fault, no_memory}
-use Rattle.uts.specs.Commands.{Asks, IsServedBy, IsRefusedBy, bytes_of}
+use Rattle.uts.specs.Answer.{IsRefused, Answers, ErrorLine, none, too_long, bad_text, fault, read_fault, write_fault, no_memory}
+use Rattle.uts.specs.Commands.{Asks, bytes_of}
 use Rattle.uts.specs.Failures.{status_of, status_after_fault, line_of, IsTold, IsReported, IsReason}
 use Rattle.uts.specs.declared.command.Command.{Command}
-use Rattle.uts.specs.declared.command.Command.TheVariants.{Plain, Check}
 use Rattle.uts.specs.declared.failure.Failure.{Failure}
-use Rattle.uts.specs.declared.failure.Failure.TheVariants.{Usage, TooLong, BadText, Faulty, NotYet, ReadFault, WriteFault, NoMemory}
-use Rattle.uts.proofs.Outcomes.{Outcome, refused, done, outcome_of, answer_of, is_plain}
-use Rattle.uts.proofs.Told.{weaker, never_both}
+use Rattle.uts.specs.declared.failure.Failure.TheVariants.{Usage, TooLong, BadText, Faulty, ReadFault, WriteFault, NoMemory}
+use Rattle.uts.proofs.Outcomes.{Outcome, refused, done, outcome_of, answer_of}
+use Rattle.uts.proofs.Told.{weaker, never_refused}
 
 -- the line of a failure with its reason
 pub error_line : (words : List (String Global)) (command : Command) (left : Option (List ℕ)) (s o : Type 0) (f : Failure) → Asks words command →
-    IsReason left (command ≡ Plain) s o f → ErrorLine words left (status_of f) (line_of f)
+    IsReason left s o f → ErrorLine words left (status_of f) (line_of f)
 error_line words command left s o Usage asks reason = absurd reason
 error_line words command left s o TooLong asks reason = too_long reason
 error_line words command left s o (BadText bad) asks reason = bad_text bad reason
 error_line words command left s o (Faulty f) asks reason = fault f.line f.kind reason
-error_line words command left s o NotYet asks reason = not_yet_line (is_plain words command asks reason.0) reason.1
 error_line words command left s o ReadFault asks reason = read_fault
 error_line words command left s o WriteFault asks reason = write_fault
 error_line words command left s o NoMemory asks reason = no_memory
@@ -35,7 +33,6 @@ high_after_fault Usage = omega arith
 high_after_fault TooLong = omega arith
 high_after_fault (BadText bad) = omega arith
 high_after_fault (Faulty f) = omega arith
-high_after_fault NotYet = omega arith
 high_after_fault ReadFault = omega arith
 high_after_fault WriteFault = omega arith
 high_after_fault NoMemory = omega arith
@@ -61,7 +58,6 @@ told_part words left Usage after old new before now status is (inr failed) = (2,
 told_part words left TooLong after old new before now status is (inr failed) = (1, line_of TooLong, is, inr (failed.0, inl refl), failed.2)
 told_part words left (BadText bad) after old new before now status is (inr failed) = (1, line_of (BadText bad), is, inr (failed.0, inl refl), failed.2)
 told_part words left (Faulty f) after old new before now status is (inr failed) = (1, line_of (Faulty f), is, inr (failed.0, inl refl), failed.2)
-told_part words left NotYet after old new before now status is (inr failed) = (1, line_of NotYet, is, inr (failed.0, inl refl), failed.2)
 told_part words left ReadFault after old new before now status is (inr failed) = (3, line_of ReadFault, is, inl (sym failed.0), failed.2)
 told_part words left WriteFault after old new before now status is (inr failed) = (4, line_of WriteFault, is, inl (sym failed.0), failed.2)
 told_part words left NoMemory after old new before now status is (inr failed) = (5, line_of NoMemory, is, inl (sym failed.0), failed.2)
@@ -77,86 +73,76 @@ pub nothing_told_part : (words : List (String Global)) (left : Option (List ℕ)
 nothing_told_part words left after silent old = (0, [], none, inl refl, prefix_of_nothing after old [] silent)
 
 -- what was reported was told of the failure, or of the memory that its line had no room in
-pub of_reported : {P : Type 0} (left : Option (List ℕ)) (plain s o : Type 0) (f : Failure) (after : List ℕ → List ℕ → List ℕ) (old new : Option (List ℕ))
-    (before now status : ℕ) → IsReason left plain s o f → IsReported f after old new before now status →
-    ((g : Failure) → IsReason left plain s o g → (g ≡ WriteFault → f ≡ WriteFault) → IsTold g after old new before now status → P) → P
-of_reported left plain s o f after old new before now status reason (inl told) gives = gives f reason (λ same. same) told
-of_reported left plain s o f after old new before now status reason (inr (built, told)) gives = gives NoMemory tt (λ same. absurd (cc)) told
+pub of_reported : {P : Type 0} (left : Option (List ℕ)) (s o : Type 0) (f : Failure) (after : List ℕ → List ℕ → List ℕ) (old new : Option (List ℕ))
+    (before now status : ℕ) → IsReason left s o f → IsReported f after old new before now status →
+    ((g : Failure) → IsReason left s o g → (g ≡ WriteFault → f ≡ WriteFault) → IsTold g after old new before now status → P) → P
+of_reported left s o f after old new before now status reason (inl told) gives = gives f reason (λ same. same) told
+of_reported left s o f after old new before now status reason (inr (built, told)) gives = gives NoMemory tt (λ same. absurd (cc)) told
 
 pub of_usage : {P : Type 0} (after : List ℕ → List ℕ → List ℕ) (old new : Option (List ℕ)) (before now status : ℕ) →
     IsReported Usage after old new before now status → (IsTold Usage after old new before now status → P) → P
 of_usage after old new before now status (inl told) gives = gives told
 of_usage after old new before now status (inr built) gives = absurd built.0
 
--- how each command refuses
-refused_of_all : (command : Command) (text : List ℕ) → IsRefused text → IsRefusedBy command text
-refused_of_all Plain text why = inl why
-refused_of_all Check text why = why
-
-refused_for_later : (command : Command) (text : List ℕ) → command ≡ Plain → IsNotYet text → IsRefusedBy command text
-refused_for_later Plain text is later = inr later
-refused_for_later Check text is later = absurd cc
-
-refused_outcome : (command : Command) (text : List ℕ) (status : ℕ) (bytes : List ℕ) → Outcome command text status bytes → status ≡ 1 → IsRefusedBy command text
+refused_outcome : (command : Command) (text : List ℕ) (status : ℕ) (bytes : List ℕ) → Outcome command text status bytes → status ≡ 1 → IsRefused text
 refused_outcome command text status bytes (refused why) is = why
-refused_outcome command text status bytes (done short p spelled fine served) is = absurd (omega arith)
+refused_outcome command text status bytes (done short p spelled fine) is = absurd (omega arith)
 
 module _ (one_problem : OneProblem) (no_problem : NoProblemWithABadLine) (no_fault : AcceptedProblemsHaveNone) (words : List (String Global)) (command : Command)
     (asks : Asks words command) where
   -- the bytes that were written at status 0
   pub done_with : (left : Option (List ℕ)) (after : List ℕ → List ℕ → List ℕ) (old new : Option (List ℕ)) →
-      IfSome left (λ text. (length text ≤ 2 ^ 20) × ((p : Problem) × Spells text p × IsAccepted p × IsServedBy command p × (new ≡ grown after old (bytes_of command p)))) →
+      IfSome left (λ text. (length text ≤ 2 ^ 20) × ((p : Problem) × Spells text p × IsAccepted p × (new ≡ grown after old (bytes_of command p)))) →
       IfSome left (λ text. (bytes : List ℕ) × Answers words text 0 bytes × (new ≡ grown after old bytes))
   done_with left after old new told =
       weaker left
-      (λ text. (length text ≤ 2 ^ 20) × ((p : Problem) × Spells text p × IsAccepted p × IsServedBy command p × (new ≡ grown after old (bytes_of command p))))
+      (λ text. (length text ≤ 2 ^ 20) × ((p : Problem) × Spells text p × IsAccepted p × (new ≡ grown after old (bytes_of command p))))
       (λ text. (bytes : List ℕ) × Answers words text 0 bytes × (new ≡ grown after old bytes))
-      (λ text (short, (p, spelled, fine, served, grew)). (
+      (λ text (short, (p, spelled, fine, grew)). (
         bytes_of command p,
-        answer_of words text command 0 (bytes_of command p) asks (done short p spelled fine served),
+        answer_of words text command 0 (bytes_of command p) asks (done short p spelled fine),
         grew,
       )) told
 
   prefix_of_outcome : (text : List ℕ) (after : List ℕ → List ℕ → List ℕ) (silent : NoneChangeNothing after) (old new : Option (List ℕ)) →
-      (IsRefusedBy command text → new ≡ old) → ((p : Problem) → Spells text p → GrewByPrefix after old new (bytes_of command p)) →
+      (IsRefused text → new ≡ old) → ((p : Problem) → Spells text p → GrewByPrefix after old new (bytes_of command p)) →
       (status : ℕ) (bytes : List ℕ) → Outcome command text status bytes → GrewByPrefix after old new bytes
   prefix_of_outcome text after silent old new unwritten part status bytes (refused why) =
       subst (λ x. GrewByPrefix after old x []) (sym (unwritten why)) (prefix_of_nothing after old [] silent)
-  prefix_of_outcome text after silent old new unwritten part status bytes (done short p spelled fine served) = part p spelled
+  prefix_of_outcome text after silent old new unwritten part status bytes (done short p spelled fine) = part p spelled
 
   -- a prefix of the answer's bytes is written
   pub prefix_of_answer : (left : Option (List ℕ)) (after : List ℕ → List ℕ → List ℕ) (silent : NoneChangeNothing after) (old new : Option (List ℕ)) →
-      IfSome left (λ text. IsRefusedBy command text → new ≡ old) →
+      IfSome left (λ text. IsRefused text → new ≡ old) →
       IfSome left (λ text. (p : Problem) → Spells text p → GrewByPrefix after old new (bytes_of command p)) →
       IfSome left (λ text. (status : ℕ) (bytes : List ℕ) → Answers words text status bytes → GrewByPrefix after old new bytes)
   prefix_of_answer None after silent old new unwritten part = record {}
   prefix_of_answer (Some text) after silent old new unwritten part = λ status bytes answer.
       prefix_of_outcome text after silent old new unwritten part status bytes (outcome_of words text command status bytes asks answer)
 
-  refused_at : (text : List ℕ) → Answers words text 1 [] → IsRefusedBy command text
+  refused_at : (text : List ℕ) → Answers words text 1 [] → IsRefused text
   refused_at text answer = refused_outcome command text 1 [] (outcome_of words text command 1 [] asks answer) refl
 
-  served_outcome : (text : List ℕ) (status : ℕ) (bytes : List ℕ) → Outcome command text status bytes → status ≡ 0 → IsRefusedBy command text → ⊥
+  served_outcome : (text : List ℕ) (status : ℕ) (bytes : List ℕ) → Outcome command text status bytes → status ≡ 0 → IsRefused text → ⊥
   served_outcome text status bytes (refused other) is why = omega arith
-  served_outcome text status bytes (done short p spelled fine served) is why =
-      never_both one_problem no_problem no_fault command text p short spelled fine served why
+  served_outcome text status bytes (done short p spelled fine) is why =
+      never_refused one_problem no_problem no_fault text p short spelled fine why
 
-  served_at : (text : List ℕ) (bytes : List ℕ) → Answers words text 0 bytes → IsRefusedBy command text → ⊥
+  served_at : (text : List ℕ) (bytes : List ℕ) → Answers words text 0 bytes → IsRefused text → ⊥
   served_at text bytes answer = served_outcome text 0 bytes (outcome_of words text command 0 bytes asks answer) refl
 
   module _ (s o : Type 0) (after : List ℕ → List ℕ → List ℕ) (old new : Option (List ℕ)) (before now status : ℕ) where
     -- a failure that is a refusal comes of a text that is refused
-    refusal_of : (text : List ℕ) (f : Failure) → IsReason (Some text) (command ≡ Plain) s o f → status_of f ≡ 1 → IsRefusedBy command text
+    refusal_of : (text : List ℕ) (f : Failure) → IsReason (Some text) s o f → status_of f ≡ 1 → IsRefused text
     refusal_of text Usage reason is = absurd reason
-    refusal_of text TooLong reason is = refused_of_all command text (inl reason)
-    refusal_of text (BadText bad) reason is = refused_of_all command text (inr (inl (bad, reason)))
-    refusal_of text (Faulty f) reason is = refused_of_all command text (inr (inr (f.line, f.kind, reason)))
-    refusal_of text NotYet reason is = refused_for_later command text reason.0 reason.1
+    refusal_of text TooLong reason is = (inl reason)
+    refusal_of text (BadText bad) reason is = (inr (inl (bad, reason)))
+    refusal_of text (Faulty f) reason is = (inr (inr (f.line, f.kind, reason)))
     refusal_of text ReadFault reason is = absurd (omega arith)
     refusal_of text WriteFault reason is = absurd (omega arith)
     refusal_of text NoMemory reason is = absurd (omega arith)
 
-    completed_at : (text : List ℕ) (f : Failure) → IsReason (Some text) (command ≡ Plain) s o f → IsTold f after old new before now status →
+    completed_at : (text : List ℕ) (f : Failure) → IsReason (Some text) s o f → IsTold f after old new before now status →
         (bytes : List ℕ) → Answers words text 0 bytes → (s → ⊥) → (o → ⊥) → (Rose before now → ⊥) → (status ≡ 0) ⊎ (status ≡ 5)
     completed_at text Usage reason told bytes answer source_calm out_calm err_calm = absurd reason
     completed_at text TooLong reason told bytes answer source_calm out_calm err_calm = absurd (served_at text bytes answer (refusal_of text TooLong reason refl))
@@ -164,14 +150,13 @@ module _ (one_problem : OneProblem) (no_problem : NoProblemWithABadLine) (no_fau
         absurd (served_at text bytes answer (refusal_of text (BadText bad) reason refl))
     completed_at text (Faulty f) reason told bytes answer source_calm out_calm err_calm =
         absurd (served_at text bytes answer (refusal_of text (Faulty f) reason refl))
-    completed_at text NotYet reason told bytes answer source_calm out_calm err_calm = absurd (served_at text bytes answer (refusal_of text NotYet reason refl))
     completed_at text ReadFault reason told bytes answer source_calm out_calm err_calm = absurd (source_calm reason)
     completed_at text WriteFault reason told bytes answer source_calm out_calm err_calm = absurd (out_calm reason)
     completed_at text NoMemory reason (inl told) bytes answer source_calm out_calm err_calm = inr told.0
     completed_at text NoMemory reason (inr failed) bytes answer source_calm out_calm err_calm = inr failed.0
 
     -- a text that is served, where no count of faults rose
-    pub completed_with : (left : Option (List ℕ)) (f : Failure) → IsReason left (command ≡ Plain) s o f → IsTold f after old new before now status →
+    pub completed_with : (left : Option (List ℕ)) (f : Failure) → IsReason left s o f → IsTold f after old new before now status →
         IfSome left (λ text. (bytes : List ℕ) → Answers words text 0 bytes → (s → ⊥) → (o → ⊥) → (Rose before now → ⊥)
         → (status ≡ 0) ⊎ (status ≡ 5))
     completed_with None f reason told = record {}
@@ -181,21 +166,20 @@ module _ (one_problem : OneProblem) (no_problem : NoProblemWithABadLine) (no_fau
     told_at_one f is (inl told) err_calm = inl (omega arith)
     told_at_one f is (inr failed) err_calm = absurd (err_calm failed.1)
 
-    completed_refusal_at : (text : List ℕ) (f : Failure) → IsReason (Some text) (command ≡ Plain) s o f → IsTold f after old new before now status →
-        (f ≡ WriteFault → IsRefusedBy command text → ⊥) → Answers words text 1 [] → (s → ⊥) → (Rose before now → ⊥) → (status ≡ 1) ⊎ (status ≡ 5)
+    completed_refusal_at : (text : List ℕ) (f : Failure) → IsReason (Some text) s o f → IsTold f after old new before now status →
+        (f ≡ WriteFault → IsRefused text → ⊥) → Answers words text 1 [] → (s → ⊥) → (Rose before now → ⊥) → (status ≡ 1) ⊎ (status ≡ 5)
     completed_refusal_at text Usage reason told unrefused answer source_calm err_calm = absurd reason
     completed_refusal_at text TooLong reason told unrefused answer source_calm err_calm = told_at_one TooLong refl told err_calm
     completed_refusal_at text (BadText bad) reason told unrefused answer source_calm err_calm = told_at_one (BadText bad) refl told err_calm
     completed_refusal_at text (Faulty f) reason told unrefused answer source_calm err_calm = told_at_one (Faulty f) refl told err_calm
-    completed_refusal_at text NotYet reason told unrefused answer source_calm err_calm = told_at_one NotYet refl told err_calm
     completed_refusal_at text ReadFault reason told unrefused answer source_calm err_calm = absurd (source_calm reason)
     completed_refusal_at text WriteFault reason told unrefused answer source_calm err_calm = absurd (unrefused refl (refused_at text answer))
     completed_refusal_at text NoMemory reason (inl told) unrefused answer source_calm err_calm = inr told.0
     completed_refusal_at text NoMemory reason (inr failed) unrefused answer source_calm err_calm = inr failed.0
 
     -- a text that is refused, where no count of faults rose
-    pub completed_refusal_with : (left : Option (List ℕ)) (f : Failure) → IsReason left (command ≡ Plain) s o f → IsTold f after old new before now status →
-        (f ≡ WriteFault → IfSome left (λ text. IsRefusedBy command text → ⊥)) →
+    pub completed_refusal_with : (left : Option (List ℕ)) (f : Failure) → IsReason left s o f → IsTold f after old new before now status →
+        (f ≡ WriteFault → IfSome left (λ text. IsRefused text → ⊥)) →
         IfSome left (λ text. Answers words text 1 [] → (s → ⊥) → (Rose before now → ⊥) → (status ≡ 1) ⊎ (status ≡ 5))
     completed_refusal_with None f reason told unrefused = record {}
     completed_refusal_with (Some text) f reason told unrefused = completed_refusal_at text f reason told unrefused
@@ -206,7 +190,7 @@ module _ (one_problem : OneProblem) (no_problem : NoProblemWithABadLine) (no_fau
     refused_alone f (inr failed) is = let high : 2 < status_after_fault f = high_after_fault f in absurd (omega arith)
 
     -- status 1
-    pub refused_with : (left : Option (List ℕ)) (f : Failure) → IsReason left (command ≡ Plain) s o f → IsTold f after old new before now status →
+    pub refused_with : (left : Option (List ℕ)) (f : Failure) → IsReason left s o f → IsTold f after old new before now status →
         status ≡ 1 → IfSome left (λ text. Answers words text 1 [])
     refused_with None f reason told is = record {}
     refused_with (Some text) f reason told is =
@@ -214,10 +198,10 @@ module _ (one_problem : OneProblem) (no_problem : NoProblemWithABadLine) (no_fau
 
   -- a text that is served is not refused
   pub done_refusal : (left : Option (List ℕ)) (Q : Problem → Type 0) (s e P : Type 0) →
-      IfSome left (λ text. (length text ≤ 2 ^ 20) × ((p : Problem) × Spells text p × IsAccepted p × IsServedBy command p × Q p)) →
+      IfSome left (λ text. (length text ≤ 2 ^ 20) × ((p : Problem) × Spells text p × IsAccepted p × Q p)) →
       IfSome left (λ text. Answers words text 1 [] → (s → ⊥) → (e → ⊥) → P)
   done_refusal left Q s e P told =
-      weaker left (λ text. (length text ≤ 2 ^ 20) × ((p : Problem) × Spells text p × IsAccepted p × IsServedBy command p × Q p))
+      weaker left (λ text. (length text ≤ 2 ^ 20) × ((p : Problem) × Spells text p × IsAccepted p × Q p))
       (λ text. Answers words text 1 [] → (s → ⊥) → (e → ⊥) → P)
-      (λ text (short, (p, spelled, fine, served, rest)) answer source_calm err_calm.
-      absurd (never_both one_problem no_problem no_fault command text p short spelled fine served (refused_at text answer))) told
+      (λ text (short, (p, spelled, fine, rest)) answer source_calm err_calm.
+      absurd (never_refused one_problem no_problem no_fault text p short spelled fine (refused_at text answer))) told

@@ -2,15 +2,13 @@
 use Rattle.std.proofs.Common.{◌≡◌, ◌≤◌, ◌^◌, inl, inr, ℕ, List, length, Option, None, Some, IfSome, arith, refl, subst}
 use Rattle.uts_io.specs.Streams.{GrewByPrefix, NoneChangeNothing, prefix_of_nothing}
 use Rattle.problem_types.specs.declared.problem.Problem.{Problem}
-use Rattle.problem_types.specs.Thin.{IsThinProblem}
 use Rattle.problem_file.specs.Grammar.{Spells}
 use Rattle.problem_file.specs.Laws.{OneProblem, NoProblemWithABadLine}
 use Rattle.task_check.specs.First.{IsAccepted, IsFirstFault}
 use Rattle.task_check.specs.Laws.{AcceptedProblemsHaveNone}
-use Rattle.uts.specs.Answer.{IsRefused, IsNotYet}
-use Rattle.uts.specs.Commands.{IsServedBy, IsRefusedBy, bytes_of}
+use Rattle.uts.specs.Answer.{IsRefused}
+use Rattle.uts.specs.Commands.{bytes_of}
 use Rattle.uts.specs.declared.command.Command.{Command}
-use Rattle.uts.specs.declared.command.Command.TheVariants.{Plain, Check}
 
 -- what holds of every text holds of the one that is told
 pub of_every : {T : Type 0} (o : Option T) (P : T → Type 0) → ((x : T) → P x) → IfSome o P
@@ -21,35 +19,21 @@ pub weaker : {T : Type 0} (o : Option T) (P Q : T → Type 0) → ((x : T) → P
 weaker None P Q gives told = told
 weaker (Some x) P Q gives told = gives x told
 
--- only `plain` leaves a problem without faults for later
-pub left_for_later : (command : Command) (text : List ℕ) (p : Problem) → length text ≤ 2 ^ 20 → Spells text p → IsAccepted p → (IsServedBy command p → ⊥) →
-    (command ≡ Plain) × IsNotYet text
-left_for_later Plain text p short spelled fine other = (refl, record { short = short; problem = p; spelled = spelled; accepted = fine; other = other })
-left_for_later Check text p short spelled fine other = absurd (other tt)
-
 -- by the laws of the grammar and of the checker
 module _ (one_problem : OneProblem) (no_problem : NoProblemWithABadLine) (no_fault : AcceptedProblemsHaveNone) where
-  -- the text of a problem without faults is not refused by both commands
+  -- the text of a problem without faults is not refused
   pub never_refused : (text : List ℕ) (p : Problem) → length text ≤ 2 ^ 20 → Spells text p → IsAccepted p → IsRefused text → ⊥
   never_refused text p short spelled fine (inl long) = omega arith
   never_refused text p short spelled fine (inr (inl (bad, told))) = no_problem text bad p told.first_bad spelled
   never_refused text p short spelled fine (inr (inr (at_line, k, told))) =
       no_fault p at_line k fine (subst (λ (q : Problem). IsFirstFault q at_line k) (one_problem text told.problem p told.spelled spelled) told.first_fault)
 
-  -- no text is both served and refused
-  pub never_both : (command : Command) (text : List ℕ) (p : Problem) → length text ≤ 2 ^ 20 → Spells text p → IsAccepted p → IsServedBy command p →
-      IsRefusedBy command text → ⊥
-  never_both Plain text p short spelled fine served (inl why) = never_refused text p short spelled fine why
-  never_both Plain text p short spelled fine served (inr later) =
-      later.other (subst IsThinProblem (one_problem text p later.problem spelled later.spelled) served)
-  never_both Check text p short spelled fine served why = never_refused text p short spelled fine why
-
   -- where the problem of the text is read, the text is not refused
-  pub not_refused : (command : Command) (left : Option (List ℕ)) (p : Problem) (P : Type 0) →
-      IfSome left (λ text. (length text ≤ 2 ^ 20) × Spells text p) → IsAccepted p → IsServedBy command p → IfSome left (λ text. IsRefusedBy command text → P)
-  not_refused command left p P read fine served =
-      weaker left (λ text. (length text ≤ 2 ^ 20) × Spells text p) (λ text. IsRefusedBy command text → P)
-      (λ text told why. absurd (never_both command text p told.0 told.1 fine served why)) read
+  pub not_refused : (left : Option (List ℕ)) (p : Problem) (P : Type 0) →
+      IfSome left (λ text. (length text ≤ 2 ^ 20) × Spells text p) → IsAccepted p → IfSome left (λ text. IsRefused text → P)
+  not_refused left p P read fine =
+      weaker left (λ text. (length text ≤ 2 ^ 20) × Spells text p) (λ text. IsRefused text → P)
+      (λ text told why. absurd (never_refused text p told.0 told.1 fine why)) read
 
   -- what is written then is a prefix of what the command gives for whatever problem the text spells
   pub prefix_of_each : (command : Command) (after : List ℕ → List ℕ → List ℕ) (left old new : Option (List ℕ)) (p : Problem) →

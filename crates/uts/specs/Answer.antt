@@ -1,9 +1,8 @@
 -- What the program answers to its words and to the text that its source has.
 use Rattle.std.specs.Prelude.{◌≡◌, ◌⊎◌, ◌<◌, ◌≤◌, ◌^◌, ℕ, List, [], ◌∷◌, map, length, codes, decimal, ◌++◌, Option, IfSome, String, string_bytes}
 use Rattle.std.specs.declared.alloc.Global.{Global}
-use Rattle.problem_types.specs.Dump.{line, dump_text}
+use Rattle.uts_model.specs.Dump.{line, dump_bytes}
 use Rattle.problem_types.specs.declared.problem.Problem.{Problem}
-use Rattle.problem_types.specs.Thin.{IsThinProblem}
 use Rattle.problem_file.specs.Grammar.{Spells, IsBadLine}
 use Rattle.task_check.specs.First.{IsFirstFault, IsAccepted}
 use Rattle.task_check.specs.declared.fault.FaultKind.{FaultKind}
@@ -36,15 +35,7 @@ pub record IsFaulty (text : List ℕ) (fault_line : ℕ) (k : FaultKind) : Type 
   pub spelled : Spells text problem
   pub first_fault : IsFirstFault problem fault_line k
 
--- the text is short enough, and spells a problem that has no fault and is not run yet
-pub record IsNotYet (text : List ℕ) : Type 0 where
-  pub short : length text ≤ 2 ^ 20
-  pub problem : Problem
-  pub spelled : Spells text problem
-  pub accepted : IsAccepted problem
-  pub other : IsThinProblem problem → ⊥
-
--- too long, of a bad line, or with a fault: what each command refuses
+-- too long, of a bad line, or with a fault: what the commands refuse
 abbrev pub IsRefused : List ℕ → Type 0
 IsRefused text = IsTooLong text ⊎ (((bad : ℕ) × IsBadText text bad) ⊎ ((fault_line : ℕ) × (k : FaultKind) × IsFaulty text fault_line k))
 
@@ -52,11 +43,9 @@ IsRefused text = IsTooLong text ⊎ (((bad : ℕ) × IsBadText text bad) ⊎ ((f
 pub data Answers (words : List (String Global)) (text : List ℕ) : ℕ → List ℕ → Type 0 where
   usage : (IsCommand words → ⊥) → Answers words text 2 []
   refusal : IsCommand words → IsRefused text → Answers words text 1 []
-  not_yet : IsPlain words → IsNotYet text → Answers words text 1 []
   accepted : IsCheck words → length text ≤ 2 ^ 20 → (p : Problem) → Spells text p → IsAccepted p
       → Answers words text 0 (line (codes "accepted"))
-  dump : IsPlain words → length text ≤ 2 ^ 20 → (p : Problem) → Spells text p → IsAccepted p → IsThinProblem p
-      → Answers words text 0 (dump_text p [])
+  dump : IsPlain words → length text ≤ 2 ^ 20 → (p : Problem) → Spells text p → IsAccepted p → Answers words text 0 (dump_bytes p [])
 
 -- the line of a refusal by these words, which stands on a line of the text
 abbrev pub refusal_line : List ℕ → ℕ → List ℕ
@@ -69,7 +58,6 @@ pub data ErrorLine (words : List (String Global)) (text : Option (List ℕ)) : �
   bad_text : (bad : ℕ) → IfSome text (λ t. IsBadText t bad) → ErrorLine words text 1 (refusal_line (codes "bad text") bad)
   fault : (fault_line : ℕ) (k : FaultKind) → IfSome text (λ t. IsFaulty t fault_line k)
       → ErrorLine words text 1 (refusal_line (fault_words k) fault_line)
-  not_yet_line : IsPlain words → IfSome text IsNotYet → ErrorLine words text 1 (line (codes "refused: not yet"))
   usage_line : (IsCommand words → ⊥) → ErrorLine words text 2 (line (codes "usage: plain, check, graph, make N, run W, mill N W"))
   read_fault : ErrorLine words text 3 (line (codes "read fault"))
   write_fault : ErrorLine words text 4 (line (codes "write fault"))

@@ -1,10 +1,9 @@
--- What each command is called, refuses and writes.
-use Rattle.std.specs.Prelude.{◌≡◌, ◌⊎◌, ℕ, List, [], codes, Option, Some, None, String}
+-- What each command is called and writes.
+use Rattle.std.specs.Prelude.{◌≡◌, ℕ, List, [], codes, Option, Some, None, String}
 use Rattle.std.specs.declared.alloc.Global.{Global}
-use Rattle.problem_types.specs.Dump.{line, dump_text}
+use Rattle.uts_model.specs.Dump.{line, dump_bytes}
 use Rattle.problem_types.specs.declared.problem.Problem.{Problem}
-use Rattle.problem_types.specs.Thin.{IsThinProblem}
-use Rattle.uts.specs.Answer.{IsPlain, IsCheck, IsCommand, IsRefused, IsNotYet}
+use Rattle.uts.specs.Answer.{IsPlain, IsCheck, IsCommand}
 use Rattle.uts.specs.declared.command.Command.{Command}
 use Rattle.uts.specs.declared.command.Command.TheVariants.{Plain, Check}
 
@@ -27,17 +26,7 @@ abbrev pub AsksFor : List (String Global) → Option Command → Type 0
 AsksFor words (Some command) = Asks words command
 AsksFor words None = IsCommand words → ⊥
 
--- the command does its work with this problem, where it has no fault
-abbrev pub IsServedBy : Command → Problem → Type 0
-IsServedBy Plain p = IsThinProblem p
-IsServedBy Check p = Unit {0}
-
--- the command refuses the text
-abbrev pub IsRefusedBy : Command → List ℕ → Type 0
-IsRefusedBy Plain text = IsRefused text ⊎ IsNotYet text
-IsRefusedBy Check text = IsRefused text
-
--- what the command writes for a problem that it serves
+-- what the command writes for a problem without faults
 abbrev pub bytes_of : Command → Problem → List ℕ
-bytes_of Plain p = dump_text p []
+bytes_of Plain p = dump_bytes p []
 bytes_of Check p = line (codes "accepted")

@@ -7,13 +7,13 @@ use Rattle.problem_file.specs.declared.fault.ParseFault.{ParseFault}
 use Rattle.problem_file.specs.declared.fault.ParseFault.TheVariants as parsed
 use Rattle.task_check.specs.declared.checking.Refusal.{Refusal}
 use Rattle.task_check.specs.declared.checking.Refusal.TheVariants as checked
-use Rattle.plain_engine.specs.declared.fault.RunFault.{RunFault}
-use Rattle.plain_engine.specs.declared.fault.RunFault.TheVariants as run
-use Rattle.problem_types.specs.Dump.{line}
-use Rattle.uts.specs.Answer.{IsTooLong, IsBadText, IsFaulty, IsNotYet, refusal_line}
+use Rattle.dump_text.specs.declared.fault.RunFault.{RunFault}
+use Rattle.dump_text.specs.declared.fault.RunFault.TheVariants as run
+use Rattle.uts_model.specs.Dump.{line}
+use Rattle.uts.specs.Answer.{IsTooLong, IsBadText, IsFaulty, refusal_line}
 use Rattle.uts.specs.Words.{fault_words}
 use Rattle.uts.specs.declared.failure.Failure.{Failure}
-use Rattle.uts.specs.declared.failure.Failure.TheVariants.{Usage, TooLong, BadText, Faulty, NotYet, ReadFault, WriteFault, NoMemory}
+use Rattle.uts.specs.declared.failure.Failure.TheVariants.{Usage, TooLong, BadText, Faulty, ReadFault, WriteFault, NoMemory}
 
 abbrev pub of_run : RunFault → Failure
 of_run run.SinkFault = WriteFault
@@ -37,7 +37,6 @@ status_of Usage = 2
 status_of TooLong = 1
 status_of (BadText bad) = 1
 status_of (Faulty f) = 1
-status_of NotYet = 1
 status_of ReadFault = 3
 status_of WriteFault = 4
 status_of NoMemory = 5
@@ -47,7 +46,6 @@ status_after_fault Usage = 4
 status_after_fault TooLong = 4
 status_after_fault (BadText bad) = 4
 status_after_fault (Faulty f) = 4
-status_after_fault NotYet = 4
 status_after_fault ReadFault = 3
 status_after_fault WriteFault = 4
 status_after_fault NoMemory = 5
@@ -57,7 +55,6 @@ line_of Usage = line (codes "usage: plain, check, graph, make N, run W, mill N W
 line_of TooLong = line (codes "refused: too long")
 line_of (BadText bad) = refusal_line (codes "bad text") bad
 line_of (Faulty f) = refusal_line (fault_words f.kind) f.line
-line_of NotYet = line (codes "refused: not yet")
 line_of ReadFault = line (codes "read fault")
 line_of WriteFault = line (codes "write fault")
 line_of NoMemory = line (codes "no memory")
@@ -74,7 +71,6 @@ IsBuilt Usage = ⊥
 IsBuilt TooLong = ⊥
 IsBuilt (BadText bad) = Unit {0}
 IsBuilt (Faulty f) = Unit {0}
-IsBuilt NotYet = ⊥
 IsBuilt ReadFault = ⊥
 IsBuilt WriteFault = ⊥
 IsBuilt NoMemory = ⊥
@@ -85,15 +81,14 @@ IsReported failure after old new before now status =
     IsTold failure after old new before now status ⊎ (IsBuilt failure × IsTold NoMemory after old new before now status)
 
 -- why a failure of the command comes, where the source had this text
-abbrev pub IsReason : Option (List ℕ) → (plain source_rose out_rose : Type 0) → Failure → Type 0
-IsReason text plain source_rose out_rose Usage = ⊥
-IsReason text plain source_rose out_rose TooLong = IfSome text IsTooLong
-IsReason text plain source_rose out_rose (BadText bad) = IfSome text (λ t. IsBadText t bad)
-IsReason text plain source_rose out_rose (Faulty f) = IfSome text (λ t. IsFaulty t f.line f.kind)
-IsReason text plain source_rose out_rose NotYet = plain × IfSome text IsNotYet
-IsReason text plain source_rose out_rose ReadFault = source_rose
-IsReason text plain source_rose out_rose WriteFault = out_rose
-IsReason text plain source_rose out_rose NoMemory = Unit {0}
+abbrev pub IsReason : Option (List ℕ) → (source_rose out_rose : Type 0) → Failure → Type 0
+IsReason text source_rose out_rose Usage = ⊥
+IsReason text source_rose out_rose TooLong = IfSome text IsTooLong
+IsReason text source_rose out_rose (BadText bad) = IfSome text (λ t. IsBadText t bad)
+IsReason text source_rose out_rose (Faulty f) = IfSome text (λ t. IsFaulty t f.line f.kind)
+IsReason text source_rose out_rose ReadFault = source_rose
+IsReason text source_rose out_rose WriteFault = out_rose
+IsReason text source_rose out_rose NoMemory = Unit {0}
 
 -- a failure that comes before anything is written
 abbrev pub IsEarly : Failure → Type 0
@@ -101,7 +96,6 @@ IsEarly Usage = Unit {0}
 IsEarly TooLong = Unit {0}
 IsEarly (BadText bad) = Unit {0}
 IsEarly (Faulty f) = Unit {0}
-IsEarly NotYet = Unit {0}
 IsEarly ReadFault = Unit {0}
 IsEarly WriteFault = ⊥
 IsEarly NoMemory = ⊥

@@ -1,7 +1,3 @@
-ghost use Rattle.std.specs.Prelude.{◌↔◌, IsTrue};
-
-use problem_types::{Problem, is_thin};
-
 /// What the program is asked to do with the source's problem.
 #[derive(Clone, Copy, Debug, PartialEq, Eq)]
 pub enum Command {
@@ -12,7 +8,7 @@ pub enum Command {
 }
 
 impl Command {
-    ghost use Rattle.uts.specs.Commands.{IsNamed, AsksFor, IsServedBy};
+    ghost use Rattle.uts.specs.Commands.{IsNamed, AsksFor};
 
     fn named(name: &str) -> Option<Command>
         ensures { IsNamed name.now result }
@@ -31,16 +27,6 @@ impl Command {
         match words {
             [word] => Command::named(word.as_str()),
             _ => None,
-        }
-    }
-
-    /// Whether the command does its work with this problem, where the problem has no fault.
-    pub fn serves(self, problem: &Problem) -> bool
-        ensures { IsTrue result ↔ IsServedBy self problem.now }
-    {
-        match self {
-            Command::Plain => is_thin(problem),
-            Command::Check => true,
         }
     }
 }

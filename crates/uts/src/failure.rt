@@ -16,8 +16,6 @@ pub enum Failure {
     BadText { line: u32 },
     /// The text spells a problem with faults. This is the first one.
     Faulty(Fault),
-    /// The text spells a problem that is not run yet.
-    NotYet,
     /// The source failed.
     ReadFault,
     /// Standard output failed.
@@ -87,7 +85,7 @@ impl Failure {
         ensures { result ≡ status_of self }
     {
         match self {
-            Failure::TooLong | Failure::BadText { .. } | Failure::Faulty(_) | Failure::NotYet => 1,
+            Failure::TooLong | Failure::BadText { .. } | Failure::Faulty(_) => 1,
             Failure::Usage => 2,
             Failure::ReadFault => 3,
             Failure::WriteFault => 4,
@@ -100,11 +98,7 @@ impl Failure {
         ensures { result ≡ status_after_fault self }
     {
         match self {
-            Failure::TooLong
-            | Failure::BadText { .. }
-            | Failure::Faulty(_)
-            | Failure::NotYet
-            | Failure::Usage => 4,
+            Failure::TooLong | Failure::BadText { .. } | Failure::Faulty(_) | Failure::Usage => 4,
             _ => self.status(),
         }
     }

@@ -5,7 +5,6 @@ use problem_file::{
     every_text_is_judged, no_problem_with_a_bad_line, one_bad_line, one_problem,
     problems_are_in_form,
 };
-use problem_types::thin_problems_are_judged;
 use task_check::{accepted_problems_have_none, first_faults_are_one, problems_are_judged};
 
 /// There is one answer, and no two, to each words and text.
@@ -20,5 +19,4 @@ pub fn one_answer()
     problems_are_judged();
     first_faults_are_one();
     accepted_problems_have_none();
-    thin_problems_are_judged();
 }

@@ -2,6 +2,8 @@
 #![tactic(auto)]
 
 mod command;
+#[cfg(test)]
+mod dumps_tests;
 mod failure;
 #[cfg(test)]
 mod faults_tests;

@@ -67,7 +67,6 @@ pub fn report<E: Sink>(alloc: Global, err: &mut E, failure: Failure) -> u8
             words_of(fault.kind),
             fault.line,
         ),
-        Failure::NotYet => tell(err, failure, b"refused: not yet\n"),
         Failure::Usage => tell(
             err,
             failure,

@@ -77,7 +77,7 @@ fn dump_of_a_growing_sum(rt: HostRuntime) -> Result<(), Fail> {
 }
 
 #[test]
-fn a_thin_text_may_be_laid_out_otherwise(rt: HostRuntime) -> Result<(), Fail> {
+fn a_text_may_be_laid_out_otherwise(rt: HostRuntime) -> Result<(), Fail> {
     let alloc = rt.alloc();
     let headed = GROWING.replace(alloc, "problem 1\n", "# two steps\n\n\tproblem\t1\n")?;
     let loose = headed
@@ -107,7 +107,6 @@ fn other_texts_are_refused(rt: HostRuntime) -> Result<(), Fail> {
     let longer = vec![in alloc; b' '; 1_048_577]?;
     for (text, line) in [
         (b"".as_slice(), "refused: bad text, line 1\n"),
-        (TWO_PATCHES.as_bytes(), "refused: not yet\n"),
         (CUT_SHORT.as_bytes(), "refused: bad text, line 17\n"),
         (longest.as_slice(), "refused: bad text, line 2\n"),
         (longer.as_slice(), "refused: too long\n"),

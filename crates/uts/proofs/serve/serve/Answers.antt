@@ -6,25 +6,25 @@ returns-in_err-checked-clause-prefix g c = prefix_of_none c.args.command g.O.Sin
 
 pub returns-in_err-write_answer-clause-unrefused : goal.returns-in_err-write_answer-clause-unrefused
 returns-in_err-write_answer-clause-unrefused g c = λ fault.
-    not_refused c.one_problem.ensures c.no_problem_with_a_bad_line.ensures c.accepted_problems_have_none.ensures c.args.command _ _ _
-    c.in_ok-checked.ensures.spelled c.in_ok-checked.ensures.accepted c.in_ok-checked.ensures.served
+    not_refused c.one_problem.ensures c.no_problem_with_a_bad_line.ensures c.accepted_problems_have_none.ensures _ _ _
+    c.in_ok-checked.ensures.spelled c.in_ok-checked.ensures.accepted
 
 pub returns-in_err-write_answer-clause-refused : goal.returns-in_err-write_answer-clause-refused
 returns-in_err-write_answer-clause-refused g c =
-    not_refused c.one_problem.ensures c.no_problem_with_a_bad_line.ensures c.accepted_problems_have_none.ensures c.args.command _ _ _
-    c.in_ok-checked.ensures.spelled c.in_ok-checked.ensures.accepted c.in_ok-checked.ensures.served
+    not_refused c.one_problem.ensures c.no_problem_with_a_bad_line.ensures c.accepted_problems_have_none.ensures _ _ _
+    c.in_ok-checked.ensures.spelled c.in_ok-checked.ensures.accepted
 
 pub returns-in_err-write_answer-clause-prefix : goal.returns-in_err-write_answer-clause-prefix
 returns-in_err-write_answer-clause-prefix g c =
     prefix_of_each c.one_problem.ensures c.no_problem_with_a_bad_line.ensures c.accepted_problems_have_none.ensures c.args.command
-    g.O.Sink.after _ _ _ _ c.in_ok-checked.ensures.spelled (rw c.problem.ensures at c.in_err-write_answer.ensures.prefix)
+    g.O.Sink.after _ _ _ _ c.in_ok-checked.ensures.spelled c.in_err-write_answer.ensures.prefix
 
 pub returns-clause-refused : goal.returns-clause-refused
 returns-clause-refused g c =
-    not_refused c.one_problem.ensures c.no_problem_with_a_bad_line.ensures c.accepted_problems_have_none.ensures c.args.command _ _ _
-    c.in_ok-checked.ensures.spelled c.in_ok-checked.ensures.accepted c.in_ok-checked.ensures.served
+    not_refused c.one_problem.ensures c.no_problem_with_a_bad_line.ensures c.accepted_problems_have_none.ensures _ _ _
+    c.in_ok-checked.ensures.spelled c.in_ok-checked.ensures.accepted
 
 pub returns-clause-prefix : goal.returns-clause-prefix
 returns-clause-prefix g c =
     prefix_of_each c.one_problem.ensures c.no_problem_with_a_bad_line.ensures c.accepted_problems_have_none.ensures c.args.command
-    g.O.Sink.after _ _ _ _ c.in_ok-checked.ensures.spelled (rw c.problem.ensures at c.in_ok-write_answer.ensures.prefix)
+    g.O.Sink.after _ _ _ _ c.in_ok-checked.ensures.spelled c.in_ok-write_answer.ensures.prefix

@@ -32,7 +32,7 @@ returns-in-Ok-clause-completed_refusal g c = done_refusal c.one_problem.ensures 
 
 pub returns-in-Err-clause-refused : goal.returns-in-Err-clause-refused
 returns-in-Err-clause-refused g c =
-    of_reported _ _ _ _ c.in-Err.failure _ _ _ _ _ _ c.in-Err.ensures.reason c.report-in-Err.ensures.told
+    of_reported _ _ _ c.in-Err.failure _ _ _ _ _ _ c.in-Err.ensures.reason c.report-in-Err.ensures.told
     (λ f reason same told. refused_with c.one_problem.ensures c.no_problem_with_a_bad_line.ensures c.accepted_problems_have_none.ensures c.args.words.now c.in-Some.command c.in-Some.ensures _ _ _ _ _ _ _ _ _ f reason told)
 
 pub returns-in-Err-clause-prefix : goal.returns-in-Err-clause-prefix
@@ -41,21 +41,21 @@ returns-in-Err-clause-prefix g c =
 
 pub returns-in-Err-clause-told : goal.returns-in-Err-clause-told
 returns-in-Err-clause-told g c =
-    of_reported _ _ _ _ c.in-Err.failure _ _ _ _ _ _ c.in-Err.ensures.reason c.report-in-Err.ensures.told
+    of_reported _ _ _ c.in-Err.failure _ _ _ _ _ _ c.in-Err.ensures.reason c.report-in-Err.ensures.told
     (λ f reason same told. told_whole _ _ f _ _ _ _ _ _ (error_line _ _ _ _ _ f c.in-Some.ensures reason) told)
 
 pub returns-in-Err-clause-told_in_part : goal.returns-in-Err-clause-told_in_part
 returns-in-Err-clause-told_in_part g c =
-    of_reported _ _ _ _ c.in-Err.failure _ _ _ _ _ _ c.in-Err.ensures.reason c.report-in-Err.ensures.told
+    of_reported _ _ _ c.in-Err.failure _ _ _ _ _ _ c.in-Err.ensures.reason c.report-in-Err.ensures.told
     (λ f reason same told. told_part _ _ f _ _ _ _ _ _ (error_line _ _ _ _ _ f c.in-Some.ensures reason) told)
 
 pub returns-in-Err-clause-completed : goal.returns-in-Err-clause-completed
 returns-in-Err-clause-completed g c =
-    of_reported _ _ _ _ c.in-Err.failure _ _ _ _ _ _ c.in-Err.ensures.reason c.report-in-Err.ensures.told
+    of_reported _ _ _ c.in-Err.failure _ _ _ _ _ _ c.in-Err.ensures.reason c.report-in-Err.ensures.told
     (λ f reason same told. completed_with c.one_problem.ensures c.no_problem_with_a_bad_line.ensures c.accepted_problems_have_none.ensures c.args.words.now c.in-Some.command c.in-Some.ensures _ _ _ _ _ _ _ _ _ f reason told)
 
 pub returns-in-Err-clause-completed_refusal : goal.returns-in-Err-clause-completed_refusal
 returns-in-Err-clause-completed_refusal g c =
-    of_reported _ _ _ _ c.in-Err.failure _ _ _ _ _ _ c.in-Err.ensures.reason c.report-in-Err.ensures.told
+    of_reported _ _ _ c.in-Err.failure _ _ _ _ _ _ c.in-Err.ensures.reason c.report-in-Err.ensures.told
     (λ f reason same told. completed_refusal_with c.one_problem.ensures c.no_problem_with_a_bad_line.ensures c.accepted_problems_have_none.ensures c.args.words.now c.in-Some.command c.in-Some.ensures _ _ _ _ _ _ _ _ _ f reason told
     (λ fault. c.in-Err.ensures.unrefused (ap Err (same fault))))

@@ -1,4 +1,4 @@
-use Rattle.std.proofs.Common.{◌≡◌, sym, subst, None, Option, IfSome}
+use Rattle.std.proofs.Common.{sym, subst, None, Option, IfSome}
 use Rattle.std.proofs.lemmas.List.{get_or-replicate}
 use Rattle.task_check.specs.Kept.{IsRight}
 use Rattle.task_check.specs.declared.plan.kept.Kept.{Kept}

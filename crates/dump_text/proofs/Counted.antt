@@ -1,0 +1,52 @@
+-- Lists made from the numbers below a bound.
+use Rattle.std.proofs.Common.{◌≡◌, ◌∙◌, ◌<◌, ◌≤◌, ◌+◌, ◌-◌, ℕ, zero, suc, List, [], ◌∷◌, ◌++◌, All, length, length-append, get_or, ap, sym, subst, arith, add-one, zero-add, append_assoc, append-nil, refl}
+use Rattle.std.specs.List.{flat_map}
+use Rattle.std.proofs.lemmas.Grind.{flat_map-append}
+use Rattle.std.proofs.lemmas.List.{get_or-append-add, get_or_append_left}
+use Rattle.uts_geom.specs.Spans.{counted}
+
+-- the numbers up to one more, and up to a higher bound
+pub counted-more : (k : ℕ) → counted 0 (k + 1) ≡ counted 0 k ++ k ∷ []
+counted-more k = rw (add-one, zero-add) refl
+
+counted_further : (k m : ℕ) → (rest : List ℕ) × (counted 0 (k + m) ≡ counted 0 k ++ rest)
+counted_further k zero = ([], ap (counted 0) (let e : k + 0 ≡ k = omega arith in e) ∙ sym (append-nil (counted 0 k)))
+counted_further k (suc m) =
+    let before = counted_further k m in (
+      before.0 ++ (0 + (k + m)) ∷ [],
+      ap (counted 0) (let e : k + suc m ≡ suc (k + m) = omega arith in e)
+          ∙ ap (λ t. t ++ (0 + (k + m)) ∷ []) before.1 ∙ append_assoc (counted 0 k) before.0 ((0 + (k + m)) ∷ []),
+    )
+
+pub counted_split : (k n : ℕ) → k < n → (rest : List ℕ) × (counted 0 n ≡ (counted 0 k ++ k ∷ []) ++ rest)
+counted_split k n below =
+    let further = counted_further (k + 1) (n - (k + 1)) in (
+      further.0,
+      ap (counted 0) (let e : n ≡ (k + 1) + (n - (k + 1)) = omega arith in e) ∙ further.1
+          ∙ ap (λ t. t ++ further.0) (counted-more k),
+    )
+
+-- what holds of each item of a list holds of each item of a part of it
+all_between : {X : Type 0} (P : X → Type 0) (whole a b rest : List X) → whole ≡ (a ++ b) ++ rest → All P whole → All P b
+all_between P whole a b rest is all = λ k d below.
+    let within : length a + k < length whole = omega (arith, ap length is, length-append (a ++ b) rest, length-append a b) in
+    let before : length a + k < length (a ++ b) = omega (arith, length-append a b) in
+    subst P
+    (ap (λ t. get_or t (length a + k) d) is ∙ get_or_append_left (a ++ b) rest d (length a + k) before ∙ get_or-append-add a b k d)
+    (all (length a + k) d within)
+
+-- the list of one number is a part of the joined lists of all
+pub all_of_one : {X : Type 0} (P : X → Type 0) (f : ℕ → List X) (k n : ℕ) → k < n → All P (flat_map f (counted 0 n)) → All P (f k)
+all_of_one P f k n below all =
+    let split = counted_split k n below in
+    all_between P (flat_map f (counted 0 n)) (flat_map f (counted 0 k)) (f k) (flat_map f split.0)
+    (ap (flat_map f) split.1 ∙ flat_map-append f (counted 0 k ++ k ∷ []) split.0
+    ∙ ap (λ t. t ++ flat_map f split.0)
+    (flat_map-append f (counted 0 k) (k ∷ []) ∙ ap (λ t. flat_map f (counted 0 k) ++ t) (append-nil (f k)))) all
+
+-- lists joined within joined lists
+pub flat_map-flat_map : {X Y Z : Type 0} (f : Y → List Z) (g : X → List Y) (xs : List X) →
+    flat_map (λ x. flat_map f (g x)) xs ≡ flat_map f (flat_map g xs)
+flat_map-flat_map f g [] = refl
+flat_map-flat_map f g (x ∷ xs) =
+    ap (λ t. flat_map f (g x) ++ t) (flat_map-flat_map f g xs) ∙ sym (flat_map-append f (g x) (flat_map g xs))

@@ -1,0 +1,10 @@
+pub mod RowTexts
+pub mod Noted
+pub mod Seen
+pub mod Written
+pub mod Shown
+pub mod FieldRows
+pub mod Placed
+pub mod Near
+pub mod Counted
+pub mod KeptNames

@@ -1,0 +1,5 @@
+pub mod Writing
+pub mod Supplies
+pub mod Showing
+pub mod Fields
+pub mod Keeps

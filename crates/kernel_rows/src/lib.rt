@@ -1,0 +1,14 @@
+//! Kernels evaluated a row of indexes at a time.
+#![tactic(auto)]
+
+mod kernels;
+mod loops;
+mod operations;
+mod reads;
+mod row;
+#[cfg(test)]
+mod tests;
+
+pub use kernels::{evaluate, scratch_places};
+pub use reads::Reads;
+pub use row::KernelRow;

@@ -1,7 +1,0 @@
-use Rattle.std.proofs.Common.{rules, append_assoc}
-use Rattle.problem_types.specs.Dump.{field_line}
-use Rattle.plain_engine.proofs.lines.put_field_line.Goals as goal
-
-pub returns : goal.returns
-unfolding field_line
-returns c = search (rules, append_assoc)

@@ -1,7 +1,0 @@
-use Rattle.std.proofs.Common.{rules, append_assoc}
-use Rattle.problem_types.specs.Dump.{step_line}
-use Rattle.plain_engine.proofs.lines.put_step_line.Goals as goal
-
-pub returns : goal.returns
-unfolding step_line
-returns c = search (rules, append_assoc)

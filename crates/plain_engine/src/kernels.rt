@@ -1,0 +1,83 @@
+//! The kernels of tasks, on a level and a material.
+ghost use Rattle.std.specs.Prelude.{◌≡◌, ◌≤◌, ◌∷◌, [], map, fold, IfOk};
+ghost use Rattle.uts_geom.specs.Spans.{IsNearSpan, width_of, indexes_of};
+ghost use Rattle.kernel_ast.specs.Size.{depth_of};
+ghost use Rattle.reductions.specs.Folding.{combined};
+ghost use Rattle.plain_engine.specs.Moments.{AreReadsAt, kernel_at};
+
+use crate::memory::Memory;
+use crate::moment::Moment;
+use crate::sweep::Sweep;
+use crate::sweeping::{field_numbers, fold_numbers};
+use kernel_ast::Expr;
+use problem_types::Fold;
+use sqlite_items::Items;
+use std::alloc::AllocError;
+use uts_geom::Span;
+use whole_fields::Stores;
+
+/// What the reads of kernels see on a level and a material.
+fn stores<'a>(moment: &Moment<'a>, level: u32, material: u32) -> Stores<'a>
+    ensures { AreReadsAt result moment.now level material }
+{
+    Stores {
+        checked: moment.checked,
+        shapes: moment.shapes,
+        old: moment.old,
+        new: moment.new,
+        material,
+        level,
+    }
+}
+
+/// The numbers of a kernel on a level and a material at all indexes of a span, in order.
+pub(crate) fn kernel_numbers(
+    moment: &Moment,
+    kernel: &Expr,
+    level: u32,
+    material: u32,
+    span: Span,
+    memory: &mut Memory,
+) -> Result<Items<i64>, AllocError>
+    requires shallow { depth_of kernel.now ≤ 64 }
+    requires near { IsNearSpan span }
+    requires narrow { width_of span ≤ 4097 }
+    ensures { IfOk result (λ numbers. numbers ≡ map (kernel_at moment.now kernel.now level material) (indexes_of span)) }
+{
+    let step = moment.step;
+    let sweep = Sweep {
+        kernel,
+        step,
+        material,
+        level,
+        span,
+    };
+    field_numbers(&sweep, &stores(moment, level, material), memory)
+}
+
+/// The numbers of a kernel on a level and a material at all indexes of a span, combined with those before them.
+pub(crate) fn kernel_fold(
+    how: Fold,
+    total: i64,
+    moment: &Moment,
+    kernel: &Expr,
+    level: u32,
+    material: u32,
+    span: Span,
+    memory: &mut Memory,
+) -> i64
+    requires shallow { depth_of kernel.now ≤ 64 }
+    requires near { IsNearSpan span }
+    requires narrow { width_of span ≤ 4097 }
+    ensures { result ≡ fold (combined how) total (map (kernel_at moment.now kernel.now level material) (indexes_of span)) }
+{
+    let step = moment.step;
+    let sweep = Sweep {
+        kernel,
+        step,
+        material,
+        level,
+        span,
+    };
+    fold_numbers(how, total, &sweep, &stores(moment, level, material), memory)
+}

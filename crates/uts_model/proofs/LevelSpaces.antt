@@ -1,0 +1,126 @@
+-- The index space of a level, which has one box, as one span.
+use Rattle.std.proofs.Common.{◌≡◌, ◌∙◌, ap, sym, refl, arith, ℕ, suc, ℤ, pos, ◌<◌, ◌≤◌, ◌≤ℤ◌, List, [], ◌∷◌, Bool, true, false, Some, None, Option, length, subst}
+use Rattle.std.specs.Prelude.{◌||◌, ◌&&◌, IsTrue, All, slice_get, slice_index, int_le, map}
+use Rattle.std.specs.List.{list_any, flat_map}
+use Rattle.std.specs.Option.{option_map_or}
+use Rattle.std.proofs.lemmas.Bool.{and_parts, false≢true}
+use Rattle.std.proofs.lemmas.Int.{ints}
+use Rattle.std.proofs.lemmas.List.{append-nil}
+use Rattle.std.proofs.lemmas.Option.{slice_get_within}
+use Rattle.uts_geom.specs.Centrings.{is_point_like}
+use Rattle.uts_geom.specs.Spans.{is_between, is_inside, indexes_of, IsNearNumber, IsNear, IsNearSpan}
+use Rattle.uts_geom.specs.declared.centring.Centring.{Centring}
+use Rattle.uts_geom.specs.declared.index.Index.{Index}
+use Rattle.uts_geom.specs.declared.span.Span.{Span}
+use Rattle.problem_types.specs.Levels.{HasNearBounds, KeepsGridLimits, spaces_on}
+use Rattle.problem_types.specs.Regions.{end_of, space_of, spaces_of, is_in_space, indexes_of as indexes_on, ratio_of}
+use Rattle.problem_types.specs.declared.problem.BoxLine.{BoxLine}
+use Rattle.problem_types.specs.declared.problem.Level.{Level}
+use Rattle.problem_types.specs.declared.problem.Problem.{Problem}
+use Rattle.uts_model.specs.Grids.{AreBoundedLevels, IsOnAxis, IsOnGrid, IsOnLevel}
+
+or_false : (b : Bool) → (b || false) ≡ b
+or_false true = refl
+or_false false = refl
+
+-- a span whose corners are on the grid
+pub record IsOnGridSpan (s : Span) : Type 0 where
+  pub lo : IsOnGrid s.lo
+  pub hi : IsOnGrid s.hi
+
+low_on_axis : (n : ℕ) → n ≤ 4096 → IsOnAxis (pos n)
+low_on_axis n near = (omega (arith, ints), omega (arith, ints))
+
+end_on_axis : (point : Bool) (n : ℕ) → n ≤ 4096 → IsOnAxis (end_of point n)
+end_on_axis true n near = (omega (arith, ints), omega (arith, ints))
+end_on_axis false n near = (omega (arith, ints), omega (arith, ints))
+
+pub space_on_grid : (c : Centring) (b : BoxLine) → HasNearBounds b → IsOnGridSpan (space_of c b)
+space_on_grid c b near =
+    let on_x = near 0 (omega arith) in
+    let on_y = near 1 (omega arith) in
+    let on_z = near 2 (omega arith) in
+    record {
+      lo = record { x = low_on_axis _ on_x.0; y = low_on_axis _ on_y.0; z = low_on_axis _ on_z.0 };
+      hi = record { x = end_on_axis _ _ on_x.1; y = end_on_axis _ _ on_y.1; z = end_on_axis _ _ on_z.1 };
+    }
+
+pub level_on_grid : (c : Centring) (l : Level) (s : Span) → KeepsGridLimits l → spaces_on c l ≡ s ∷ [] → IsOnGridSpan s
+level_on_grid c l s limits one = by_box l.boxes limits.boxes one
+  where
+    by_box : (boxes : List BoxLine) → All HasNearBounds boxes → map (space_of c) boxes ≡ s ∷ [] → IsOnGridSpan s
+    by_box [] near one = absurd cc
+    by_box (b ∷ rest) near one =
+        let same : space_of c b ≡ s = cc in
+        subst (λ (t : Span). IsOnGridSpan t) same (space_on_grid c b (near 0 b (omega arith)))
+
+near_axis : (n : ℤ) → IsOnAxis n → IsNearNumber n
+near_axis n on = (omega (arith, ints, on.0), omega (arith, ints, on.1))
+
+near_index : (i : Index) → IsOnGrid i → IsNear i
+near_index i on = record { x = near_axis i.x on.x; y = near_axis i.y on.y; z = near_axis i.z on.z }
+
+pub near_span : (s : Span) → IsOnGridSpan s → IsNearSpan s
+near_span s on = record { lo = near_index s.lo on.lo; hi = near_index s.hi on.hi }
+
+between_on_axis : (low high n : ℤ) → is_between low high n ≡ true → IsOnAxis low → IsOnAxis high → IsOnAxis n
+between_on_axis low high n between a b = (grind (arith, ints), grind (arith, ints))
+
+pub inside_on_grid : (s : Span) (i : Index) → IsOnGridSpan s → is_inside s i ≡ true → IsOnGrid i
+inside_on_grid s i on inside =
+    let on_x = and_parts (is_between s.lo.x s.hi.x i.x) (is_between s.lo.y s.hi.y i.y && is_between s.lo.z s.hi.z i.z) inside in
+    let on_y = and_parts (is_between s.lo.y s.hi.y i.y) (is_between s.lo.z s.hi.z i.z) on_x.1 in
+    record {
+      x = between_on_axis s.lo.x s.hi.x i.x on_x.0 on.lo.x on.hi.x;
+      y = between_on_axis s.lo.y s.hi.y i.y on_y.0 on.lo.y on.hi.y;
+      z = between_on_axis s.lo.z s.hi.z i.z on_y.1 on.lo.z on.hi.z;
+    }
+
+-- a level of the problem, by its number
+module _ (p : Problem) (level : ℕ) (l : Level) (at : Some l ≡ slice_get p.levels level) where
+  pub ratio_at : ratio_of p level ≡ l.ratio
+  ratio_at = ap (λ (o : Option Level). option_map_or (λ (k : Level). k.ratio) o 1) (sym at)
+
+  pub spaces_at : (c : Centring) → spaces_of p level c ≡ spaces_on c l
+  spaces_at c = ap (λ (o : Option Level). option_map_or (λ (k : Level). map (space_of c) k.boxes) o []) (sym at)
+
+  pub on_level_at : (i : Index) → IsOnGrid i → IsOnLevel p level i
+  on_level_at i on = record { level_there = slice_get_within p.levels level l (sym at); on_grid = on }
+
+-- a level that is not there
+module _ (p : Problem) (level : ℕ) (none : None ≡ slice_get p.levels level) where
+  pub ratio_of_none : ratio_of p level ≡ 1
+  ratio_of_none = ap (λ (o : Option Level). option_map_or (λ (k : Level). k.ratio) o 1) (sym none)
+
+  pub spaces_of_none : (c : Centring) → spaces_of p level c ≡ []
+  spaces_of_none c = ap (λ (o : Option Level). option_map_or (λ (k : Level). map (space_of c) k.boxes) o []) (sym none)
+
+-- where there is one space, it is the level's
+module _ (p : Problem) (level : ℕ) (c : Centring) (s : Span) (one : spaces_of p level c ≡ s ∷ []) where
+  pub inside_one : (i : Index) → is_in_space p level c i ≡ is_inside s i
+  inside_one i = ap (λ (spaces : List Span). list_any (λ t. is_inside t i) spaces) one ∙ or_false (is_inside s i)
+
+  pub indexes_of_one : indexes_on p level c ≡ indexes_of s
+  indexes_of_one = ap (λ (spaces : List Span). flat_map indexes_of spaces) one ∙ append-nil (indexes_of s)
+
+in_some_space : (c : Centring) (i : Index) (boxes : List BoxLine) → All HasNearBounds boxes →
+    list_any (λ s. is_inside s i) (map (space_of c) boxes) ≡ true → IsOnGrid i
+in_some_space c i [] near inside = absurd cc
+in_some_space c i (b ∷ rest) near inside =
+    by_test (is_inside (space_of c b) i) refl inside (λ rest_inside. in_some_space c i rest (λ k d below. near (suc k) d (omega arith)) rest_inside)
+  where
+    by_test : (t : Bool) → is_inside (space_of c b) i ≡ t → (t || list_any (λ s. is_inside s i) (map (space_of c) rest)) ≡ true →
+        (list_any (λ s. is_inside s i) (map (space_of c) rest) ≡ true → IsOnGrid i) → IsOnGrid i
+    by_test true here some later = inside_on_grid (space_of c b) i (space_on_grid c b (near 0 b (omega arith))) here
+    by_test false here some later = later some
+
+-- what lies in the index space of a level is near
+pub inside_near : (p : Problem) (level : ℕ) (c : Centring) (i : Index) → AreBoundedLevels p → is_in_space p level c i ≡ true → IsNear i
+inside_near p level c i bounded inside = by_level (slice_get p.levels level) refl
+  where
+    by_level : (o : Option Level) → o ≡ slice_get p.levels level → IsNear i
+    by_level None none =
+        absurd (false≢true (sym (ap (λ (spaces : List Span). list_any (λ s. is_inside s i) spaces) (spaces_of_none p level none c)) ∙ inside))
+    by_level (Some l) at =
+        near_index i (in_some_space c i l.boxes (bounded.each level l (sym at)).limits.boxes
+        (sym (ap (λ (spaces : List Span). list_any (λ s. is_inside s i) spaces) (spaces_at p level l at c)) ∙ inside))

@@ -1,0 +1,12 @@
+pub mod Far
+pub mod LevelSpaces
+pub mod Filtered
+pub mod Children
+pub mod Indexes
+pub mod Ranks
+pub mod States
+pub mod Folded
+pub mod ReadForms
+pub mod Expressions
+pub mod Shallow
+pub mod Accepted

@@ -1,0 +1,15 @@
+//! What a problem means: its numbers by evaluation in declared order on whole levels, and its dump. `docs/model.md`
+//! states it.
+#![tactic(auto)]
+
+mod grid;
+mod lookups;
+mod moments;
+mod numbers;
+mod operations;
+#[cfg(test)]
+mod tests;
+mod witness;
+
+pub use task_check::Checked;
+pub use witness::at_index;

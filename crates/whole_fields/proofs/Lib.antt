@@ -1,0 +1,14 @@
+pub mod Lists
+pub mod Spaces
+pub mod Among
+pub mod States
+pub mod Undeclared
+pub mod RowsTogether
+pub mod RowViews
+pub mod Filling
+pub mod Seen
+pub mod OnRows
+pub mod Folded
+pub mod Bounded
+pub mod Inside
+pub mod Counting

@@ -1,0 +1,87 @@
+-- The index spaces of levels.
+use Rattle.std.proofs.Common.{◌≡◌, ◌≢◌, ◌∙◌, ◌≤◌, ◌<◌, inl, inr, ℕ, pos, List, [], ◌∷◌, length, map, Bool, true, false, Option, Some, refl, ap, sym, subst, arith, append-nil}
+use Rattle.std.specs.Prelude.{All, AllPairs, Contains, IsTrue, slice_get, slice_index, ◌||◌, ◌↔◌}
+use Rattle.std.specs.List.{flat_map, list_any}
+use Rattle.std.specs.Option.{option_map_or}
+use Rattle.std.proofs.lemmas.Int.{ints}
+use Rattle.std.proofs.lemmas.List.Elements.{All-head}
+use Rattle.std.proofs.lemmas.Option.{slice_get_cases}
+use Rattle.uts_geom.specs.Spans.{is_inside, indexes_of, row_indexes, IsNearNumber, IsNearSpan}
+use Rattle.uts_geom.specs.declared.centring.Centring.{Centring}
+use Rattle.uts_geom.specs.declared.index.Index.{Index}
+use Rattle.uts_geom.specs.declared.span.Span.{Span}
+use Rattle.problem_types.specs.Levels.{HasNearBounds, KeepsGridLimits, spaces_on}
+use Rattle.problem_types.specs.Regions.{end_of, space_of, spaces_of, is_in_space, indexes_of as indexes_on_level}
+use Rattle.problem_types.specs.declared.problem.BoxLine.{BoxLine}
+use Rattle.problem_types.specs.declared.problem.Level.{Level}
+use Rattle.problem_types.specs.declared.problem.Problem.{Problem}
+use Rattle.task_check.specs.Bounds.{IsBounded}
+use Rattle.whole_fields.specs.Views.{IsSpaceOn}
+
+low_near : (low : ℕ) → low ≤ 4096 → IsNearNumber (pos low)
+low_near low small = (omega (arith, ints), omega (arith, ints))
+
+end_near : (point : Bool) (high : ℕ) → high ≤ 4096 → IsNearNumber (end_of point high)
+end_near true high small = (omega (arith, ints), omega (arith, ints))
+end_near false high small = (omega (arith, ints), omega (arith, ints))
+
+space_near : (c : Centring) (b : BoxLine) → HasNearBounds b → IsNearSpan (space_of c b)
+space_near c b near = record {
+  lo = record {
+    x = low_near (slice_index b.lo 0) (near 0 (omega arith)).0;
+    y = low_near (slice_index b.lo 1) (near 1 (omega arith)).0;
+    z = low_near (slice_index b.lo 2) (near 2 (omega arith)).0;
+  };
+  hi = record {
+    x = end_near _ (slice_index b.hi 0) (near 0 (omega arith)).1;
+    y = end_near _ (slice_index b.hi 1) (near 1 (omega arith)).1;
+    z = end_near _ (slice_index b.hi 2) (near 2 (omega arith)).1;
+  };
+}
+
+near_in : (c : Centring) (boxes : List BoxLine) (s : Span) → All HasNearBounds boxes → map (space_of c) boxes ≡ s ∷ [] → IsNearSpan s
+near_in c [] s near one = absurd cc
+near_in c (b ∷ boxes) s near one =
+    let same : space_of c b ≡ s = cc in
+    subst IsNearSpan same (space_near c b (All-head HasNearBounds b boxes near))
+
+or_none : (b : Bool) → (b || false) ≡ b
+or_none true = refl
+or_none false = refl
+
+-- the index space of a level that the problem has
+pub space_on_level : (p : Problem) (level : ℕ) (c : Centring) (l : Level) (s : Span) → slice_get p.levels level ≡ Some l → KeepsGridLimits l →
+    spaces_on c l ≡ s ∷ [] → IsSpaceOn p level c s
+space_on_level p level c l s at limits one =
+    let whole : spaces_of p level c ≡ s ∷ [] = ap (λ (o : Option Level). option_map_or (λ (m : Level). map (space_of c) m.boxes) o []) at ∙ one in
+    record {
+      near = near_in c l.boxes s limits.boxes one;
+      inside = λ i. ap (list_any (λ (t : Span). is_inside t i)) whole ∙ or_none (is_inside s i);
+      indexes = ap (flat_map indexes_of) whole ∙ append-nil (indexes_of s);
+      rows = λ y z. ap (flat_map (λ (t : Span). row_indexes t y z)) whole ∙ append-nil (row_indexes s y z);
+    }
+
+one_item : {A : Type 0} (items : List A) → length items ≡ 1 → (item : A) × (items ≡ item ∷ [])
+one_item [] one = absurd cc
+one_item (a ∷ []) one = (a, refl)
+one_item (a ∷ b ∷ items) one = absurd (omega arith)
+
+-- each level of a problem within the limits has an index space
+pub some_space : (p : Problem) (level : ℕ) (c : Centring) → IsBounded p → level < length p.levels → (s : Span) × IsSpaceOn p level c s
+some_space p level c bounded below =
+    elim (slice_get_cases p.levels level).1 [
+      | inl (l, within, at, same) ↦
+          let limits = (bounded.levels level l at).limits in
+          let box = one_item l.boxes limits.one_box in
+          (space_of c box.0, space_on_level p level c l (space_of c box.0) at limits (ap (map (space_of c)) box.1))
+      | inr past ↦ absurd (omega (arith, past.0))
+    ]
+
+-- the indexes of a space, by the laws of spans
+module _ (p : Problem) (level : ℕ) (c : Centring) (s : Span) (space : IsSpaceOn p level c s) where
+  pub space_has : ((s : Span) (i : Index) → Contains (indexes_of s) i ↔ IsTrue (is_inside s i)) →
+      (i : Index) → IsTrue (is_in_space p level c i) → Contains (indexes_on_level p level c) i
+  space_has holds i inside = subst (λ (indexes : List Index). Contains indexes i) (sym space.indexes) ((holds s i).1 (sym (space.inside i) ∙ inside))
+
+  pub space_has_once : ((s : Span) → AllPairs ◌≢◌ (indexes_of s)) → AllPairs ◌≢◌ (indexes_on_level p level c)
+  space_has_once once = subst (λ (indexes : List Index). AllPairs ◌≢◌ indexes) (sym space.indexes) (once s)

@@ -1,0 +1,4 @@
+pub mod Stored
+pub mod Shapes
+pub mod Views
+pub mod Children
