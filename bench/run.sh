@@ -1,9 +1,11 @@
 #!/usr/bin/env bash
-# Times `uts plain` beside a plain Rust program that does the same work, in one run on one machine: 64 x 64 x 64
-# cells, seven reads a cell, 50 steps, the dump thrown away. Prints the best of three times of each, their ratio and
-# the most memory that each took, and how long texts of about a million bytes take: one of many tasks, which is read whole and
-# refused for its first fault (and printed, where the program reprint is built), and one that is no problem, which is refused.
-# Before that it compares what both write, on a small problem and on the examples. Needs rustc.
+# Times `uts plain` beside two plain Rust programs that do the same work, in one run on one machine, the dumps thrown away: one walks
+# the same expression trees index by index over whole fields (yardstick.rs), one has the kernels compiled in (compiled.rs). The
+# problems are a diffusion on 64 x 64 x 64 cells with seven reads a cell and 50 steps, and one of two levels, two materials and a
+# reduction. Prints the best of three times of each, their ratios and the most memory that each took, and how long texts of about a
+# million bytes take: one of many tasks, which is read whole and refused for its first fault (and printed, where the program reprint
+# is built), and one that is no problem, which is refused. Before that it compares what all three write, on both problems, and on
+# the examples. Needs rustc.
 set -eu
 
 top=$(dirname -- "$(dirname -- "$(readlink -f -- "${BASH_SOURCE[0]}")")")
@@ -11,8 +13,9 @@ program=$top/crates/uts/out/uts
 room=$(mktemp -d)
 trap 'rm -rf -- "$room"' EXIT
 yardstick=$room/yardstick
+compiled=$room/compiled
 
-# A problem text: so many steps, and so many cells along each axis.
+# The diffusion: so many steps, and so many cells along each axis.
 problem() {
     cat <<TEXT
 problem 1
@@ -36,9 +39,46 @@ end
 TEXT
 }
 
+# The problem of two levels: 8,192 and 4,096 cells in 64 and 32 patches, two materials, ten steps.
+two_levels() {
+    printf '%s\n' 'problem 1' 'steps 10' 'dump 5' 'ghost 1' 'materials 2' 'level ratio 1' 'box 0 0 0 32 32 8'
+    local i j k
+    for j in 0 4 8 12 16 20 24 28; do for i in 0 4 8 12 16 20 24 28; do echo "patch $i $j 0 $((i + 4)) $((j + 4)) 8"; done; done
+    printf '%s\n' 'level ratio 2' 'box 8 8 0 24 24 16'
+    for k in 0 8; do for j in 8 12 16 20; do for i in 8 12 16 20; do echo "patch $i $j $k $((i + 4)) $((j + 4)) $((k + 8))"; done; done; done
+    cat <<TEXT
+var u cell outside 0
+var b cell outside 0
+reduction top max
+init
+task start levels 0 1 materials 0 1
+computes u = (x * 7 + y * 11 + z * 13 + material * 5 + 0) % 100
+task first levels 0 1 materials 0 1
+requires new u none
+reduces top cell = new.u[0,0,0]
+timestep
+task diffuse levels 0 1 materials 0 1
+requires old u cells 1
+computes u = (old.u[-1,0,0] + old.u[1,0,0] + old.u[0,-1,0] + old.u[0,1,0] + old.u[0,0,-1] + old.u[0,0,1] + 2 * old.u[0,0,0]) / 8
+task coarsen levels 0 materials 0 1
+requires new u none
+requires new fine u
+modifies u = select(new.fine_count.u, new.fine_sum.u / 8, new.u[0,0,0])
+task edge levels 1 materials 0 1
+requires new coarse u none
+computes b = new.coarse.u[0,0,0]
+task peak levels 0 1 materials 0 1
+requires new u none
+reduces top cell = new.u[0,0,0]
+keep u
+keep top
+end
+TEXT
+}
+
 same() {
     "$program" plain <"$1" >"$room/ours"
-    "$yardstick" <"$1" >"$room/theirs"
+    "$2" "${@:3}" <"$1" >"$room/theirs"
     cmp -- "$room/ours" "$room/theirs" || { echo "the dumps of $1 differ"; exit 1; }
 }
 
@@ -61,30 +101,43 @@ memory() {
 }
 
 rustc --edition 2021 -O -o "$yardstick" "$top/bench/yardstick.rs"
+rustc --edition 2021 -O -o "$compiled" "$top/bench/compiled.rs"
 problem 6 8 >"$room/small"
 problem 50 64 >"$room/large"
+two_levels >"$room/levels"
 
 # the first call proves and builds, where need be
 "$top/uts.sh" plain <"$room/small" >/dev/null
-for text in "$room/small" "$top"/examples/*.uts; do same "$text"; done
-echo "the dumps of a small problem and of the examples are equal"
+for text in "$room/small" "$room/levels" "$top"/examples/*.uts; do same "$text" "$yardstick"; done
+same "$room/small" "$compiled" diffusion 6 8
+same "$room/levels" "$compiled" two_levels
+echo "the dumps of small problems and of the examples are equal"
 
-for _ in 1 2 3; do
-    seconds "$room/large" "$yardstick" >>"$room/yardstick.seconds"
-    seconds "$room/large" "$program" plain >>"$room/uts.seconds"
-done
-ours=$(least "$room/uts.seconds")
-theirs=$(least "$room/yardstick.seconds")
-echo "64 x 64 x 64 cells, seven reads, 50 steps, best of three:"
-echo "  uts plain  $ours s"
-echo "  yardstick  $theirs s"
-awk -v a="$ours" -v b="$theirs" 'BEGIN { printf "  ratio      %.2f\n", a / b }'
+# A title, a text, and the words of the compiled program.
+beside() {
+    local name
+    for name in uts yardstick compiled; do : >"$room/$name.seconds"; done
+    for _ in 1 2 3; do
+        seconds "$2" "$yardstick" >>"$room/yardstick.seconds"
+        seconds "$2" "$compiled" "${@:3}" >>"$room/compiled.seconds"
+        seconds "$2" "$program" plain >>"$room/uts.seconds"
+    done
+    local ours walked built
+    ours=$(least "$room/uts.seconds")
+    walked=$(least "$room/yardstick.seconds")
+    built=$(least "$room/compiled.seconds")
+    echo "$1, best of three:"
+    echo "  uts plain  $ours s"
+    echo "  yardstick  $walked s, index by index"
+    echo "  yardstick  $built s, compiled in"
+    awk -v a="$ours" -v b="$walked" -v c="$built" 'BEGIN { printf "  ratios     %.2f and %.2f\n", a / b, a / c }'
+    if [ -x /usr/bin/time ]; then
+        echo "  most memory: $(memory "$2" "$program" plain), $(memory "$2" "$yardstick") and $(memory "$2" "$compiled" "${@:3}") KiB"
+    fi
+}
 
-if [ -x /usr/bin/time ]; then
-    echo "most memory:"
-    echo "  uts plain  $(memory "$room/large" "$program" plain) KiB"
-    echo "  yardstick  $(memory "$room/large" "$yardstick") KiB"
-fi
+beside "64 x 64 x 64 cells, seven reads, 50 steps" "$room/large" diffusion 50 64
+beside "two levels, two materials, ten steps" "$room/levels" two_levels
 
 # The time and the most memory of a text that is answered with status 1, and what was said of it.
 answered() {
