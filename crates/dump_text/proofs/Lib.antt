@@ -4,7 +4,6 @@ pub mod Seen
 pub mod Written
 pub mod Shown
 pub mod FieldRows
-pub mod Placed
 pub mod Near
 pub mod Counted
 pub mod KeptNames

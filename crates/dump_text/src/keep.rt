@@ -1,6 +1,5 @@
 //! What stands for a kept name: the fields of a variable, or the number of a reduction.
-ghost use Rattle.std.specs.Prelude.{◌≡◌, ◌<◌, ◌∷◌, ◌==◌, [], map, length, All, IsTrue, IsFalse, IsSome, IfSome, MatchOption, Some, slice_get};
-ghost use Rattle.std.specs.List.{list_any};
+ghost use Rattle.std.specs.Prelude.{◌≡◌, ◌<◌, ◌∷◌, [], map, length, All, IsTrue, IsFalse, IsSome, IfSome, MatchOption, Some, slice_get};
 ghost use Rattle.std.specs.Option.{is_some};
 ghost use Rattle.uts_geom.specs.Spans.{IsNearSpan};
 ghost use Rattle.problem_types.specs.Lists.{task_list, runs_on, computes, centring_of, variable_named};
@@ -18,49 +17,16 @@ use crate::lines::{put_number_line, write_line};
 use crate::place::Place;
 use patch_regions::index_space;
 use probes::Probe;
-use problem_types::{Centring, Level, Problem, Task, var_of};
+use problem_lookup::{centring_of, runs_on, task_list};
+use problem_types::{Level, Problem, Task};
 use task_rules::{has_computes, is_variable};
 use uts_io::Sink;
-
-/// The tasks of a step.
-fn tasks_of(problem: &Problem, step: u32) -> &[Task]
-    ensures { result.now ≡ task_list problem.now step }
-{
-    if step == 0 {
-        problem.init.as_slice()
-    } else {
-        problem.timestep.as_slice()
-    }
-}
-
-fn is_among(numbers: &[u64], number: u64) -> bool
-    ensures { result ≡ list_any (λ n. n == number) numbers.now }
-{
-    numbers.iter().any(|n| *n == number)
-}
-
-/// Whether the task runs on this material and this level.
-fn runs_on(task: &Task, material: u64, level: u64) -> bool
-    ensures { result ≡ runs_on task.now material level }
-{
-    is_among(task.materials.as_slice(), material) && is_among(task.levels.as_slice(), level)
-}
 
 /// Whether one of the tasks computes the variable on this material and this level.
 fn computes(tasks: &[Task], name: u32, material: u64, level: u64) -> bool
     ensures { result ≡ computes tasks.now name material level }
 {
     tasks.iter().any(|t| runs_on(t, material, level) && has_computes(t.writes.as_slice(), name))
-}
-
-/// The centring of a variable; cells where none is declared.
-fn centring_of(problem: &Problem, name: u32) -> Centring
-    ensures { result ≡ centring_of problem.now name }
-{
-    match var_of(problem, name) {
-        Some(place) => problem.vars.as_slice()[place].centring,
-        None => Centring::Cell,
-    }
 }
 
 /// The level of this number.
@@ -80,7 +46,7 @@ fn place_on(kept: &Kept, material: u32, level: u32) -> Option<Place>
     ensures near { IfSome result (λ place. IsNearSpan place.span) }
 {
     let problem = kept.problem;
-    let tasks = tasks_of(problem, kept.step);
+    let tasks = task_list(problem, kept.step);
     if !computes(tasks, kept.name, u64::from(material), u64::from(level)) {
         return None;
     }

@@ -21,17 +21,8 @@ use crate::lines::{put_step_line, write_line};
 use probes::Probe;
 use problem_types::Problem;
 use std::alloc::Global;
-use task_check::{Checked, accepted_problems_are_bounded};
+use task_check::{Checked, bounds};
 use uts_io::Sink;
-
-/// A checked problem is in form and within the limits.
-fn bounds(c: &Checked)
-    ensures form { IsProblemInForm c.now }
-    ensures bounded { IsBounded c.now }
-{
-    accepted_problems_are_bounded();
-    let _problem = c.problem();
-}
 
 /// Hands the line that begins a step to the sink.
 fn write_step_line<O: Sink>(step: u32, line: &mut Vec<u8>, sink: &mut O) -> Result<(), RunFault>

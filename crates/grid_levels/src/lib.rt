@@ -7,8 +7,6 @@ mod level;
 mod limits;
 mod multiples;
 mod spans;
-#[cfg(test)]
-mod tests;
 mod tiling;
 
 pub use level::{BadGrid, check_level};

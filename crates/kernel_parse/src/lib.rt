@@ -7,8 +7,6 @@ mod lexeme;
 mod parse;
 mod parser;
 mod reads;
-#[cfg(test)]
-mod tests;
 mod tokens;
 mod tree;
 

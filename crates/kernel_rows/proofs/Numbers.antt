@@ -6,6 +6,7 @@ use Rattle.std.proofs.lemmas.List.{map-id, length-map}
 use Rattle.std.proofs.lemmas.Simd.{map-map, splat_is_map, zip2_of_maps}
 use Rattle.uts_geom.specs.Spans.{index, from_to, counted}
 use Rattle.uts_geom.specs.declared.index.Index.{Index}
+use Rattle.uts_geom.specs.Counting.{length-counted}
 use Rattle.kernel_ast.specs.Arithmetic.{difference_of}
 use Rattle.kernel_ast.specs.Value.{Environment, value_of, result_of, value_of-X, value_of-Read, value_of-Neg, value_of-Binary, value_of-Select}
 use Rattle.kernel_ast.specs.declared.expression.Op.{Op}
@@ -16,7 +17,6 @@ use Rattle.kernel_ast.specs.declared.expression.Expr.TheVariants as expr
 use Rattle.kernel_rows.specs.declared.row.KernelRow.{KernelRow}
 use Rattle.kernel_rows.specs.Choice.{chosen}
 use Rattle.kernel_rows.specs.Values.{indexes_on, environment_on, values_on}
-use Rattle.kernel_rows.proofs.Steps.{length-counted}
 use lib.Lanes.{zip2}
 
 -- what agrees on each element gives the same list

@@ -2,6 +2,7 @@
 use Rattle.std.proofs.Common.{◌≡◌, ◌∙◌, ℕ, zero, suc, ◌+◌, ◌<◌, List, [], ◌∷◌, ◌++◌, length, map, get_or, set, take, drop, refl, ap, sym, arith, add-one, drop-cons, length-append}
 use Rattle.std.proofs.lemmas.List.{length-map, map-append, set_at, append_assoc}
 use Rattle.uts_geom.specs.Spans.{counted}
+use Rattle.uts_geom.specs.Counting.{length-counted}
 use lib.Lanes.{zip2}
 
 module _ {A B : Type 0} (f : A → B → A) where
@@ -27,11 +28,6 @@ module _ {A B : Type 0} (f : A → B → A) where
       set zs i (f (get_or zs i d) (get_or ys i e)) ≡ zip2 f (take (i + 1) xs) (take (i + 1) ys) ++ drop (i + 1) xs
   combined_more xs zs ys i d e in_left in_right so_far =
       rw (so_far, place_of xs ys i d in_left in_right, add-one) (next_of xs ys i d e in_left in_right)
-
--- as many numbers as are counted
-pub length-counted : (low n : ℕ) → length (counted low n) ≡ n
-length-counted low zero = refl
-length-counted low (suc n) = length-append (counted low n) ((low + n) ∷ []) ∙ omega (arith, length-counted low n)
 
 -- a loop that writes f k at each place k
 pub counted_more : {A : Type 0} (f : ℕ → A) (xs zs : List A) (i : ℕ) → i < length xs → zs ≡ map f (counted 0 i) ++ drop i xs →

@@ -5,15 +5,15 @@ ghost use Rattle.plain_engine.specs.Changes.{written_of};
 ghost use Rattle.plain_engine.specs.Moments.{problem_at, field_change_at, line_changes_at, field_changes_at};
 ghost use Rattle.plain_engine.specs.Runnable.{IsRunnable, IsRunnableLine};
 
-use crate::bounds::bounds;
 use crate::kernels::kernel_numbers;
-use crate::memory::Memory;
 use crate::moment::Moment;
-use crate::spaces::{centring_named, space_on};
+use crate::spaces::space_on;
 use crate::written::WrittenField;
-use problem_types::{Task, Write, WriteKind};
+use problem_lookup::{centring_of, is_of_field};
+use problem_types::{Task, Write};
 use sqlite_items::Items;
 use std::alloc::AllocError;
+use task_check::bounds;
 
 /// The field that a line gives on a level and a material.
 fn written_field(
@@ -21,15 +21,16 @@ fn written_field(
     write: &Write,
     level: u32,
     material: u32,
-    memory: &mut Memory,
+    scratch: &mut [i64],
 ) -> Result<WrittenField, AllocError>
-    requires line { IsRunnableLine (problem_at moment.now) write.now }
+    requires line { IsRunnableLine (problem_at moment.now) moment.now.places write.now }
     requires level { level < length (problem_at moment.now).levels }
+    requires room { moment.now.places ≤ length scratch.old }
     ensures { IfOk result (λ field. field ≡ written_of (problem_at moment.now) (field_change_at moment.now write.now level material)) }
 {
-    let centring = centring_named(moment.checked.problem(), write.name);
+    let centring = centring_of(moment.checked.problem(), write.name);
     let span = space_on(moment.checked, level, centring);
-    let numbers = kernel_numbers(moment, &write.expr, level, material, span, memory)?;
+    let numbers = kernel_numbers(moment, &write.expr, level, material, span, scratch)?;
     Ok(WrittenField {
         name: write.name,
         material,
@@ -44,18 +45,19 @@ fn push_materials(
     task: &Task,
     write: &Write,
     level: u32,
-    memory: &mut Memory,
+    scratch: &mut [i64],
     fields: &mut Items<WrittenField>,
 ) -> Result<(), AllocError>
-    requires task { IsRunnable (problem_at moment.now) task.now }
-    requires line { IsRunnableLine (problem_at moment.now) write.now }
+    requires task { IsRunnable (problem_at moment.now) moment.now.places task.now }
+    requires line { IsRunnableLine (problem_at moment.now) moment.now.places write.now }
     requires level { level < length (problem_at moment.now).levels }
+    requires room { moment.now.places ≤ length scratch.old }
     ensures { OnOk result (fields.new ≡ fields.old
         ++ map (written_of (problem_at moment.now)) (map (field_change_at moment.now write.now level) task.now.materials)) }
 {
     bounds(moment.checked);
     for material in task.materials.as_slice() {
-        fields.push(written_field(moment, write, level, *material as u32, memory)?)?;
+        fields.push(written_field(moment, write, level, *material as u32, scratch)?)?;
     }
     Ok(())
 }
@@ -65,29 +67,20 @@ fn push_levels(
     moment: &Moment,
     task: &Task,
     write: &Write,
-    memory: &mut Memory,
+    scratch: &mut [i64],
     fields: &mut Items<WrittenField>,
 ) -> Result<(), AllocError>
-    requires task { IsRunnable (problem_at moment.now) task.now }
-    requires line { IsRunnableLine (problem_at moment.now) write.now }
+    requires task { IsRunnable (problem_at moment.now) moment.now.places task.now }
+    requires line { IsRunnableLine (problem_at moment.now) moment.now.places write.now }
+    requires room { moment.now.places ≤ length scratch.old }
     ensures { OnOk result (fields.new ≡ fields.old
         ++ map (written_of (problem_at moment.now)) (line_changes_at moment.now task.now write.now)) }
 {
     bounds(moment.checked);
     for level in task.levels.as_slice() {
-        push_materials(moment, task, write, *level as u32, memory, fields)?;
+        push_materials(moment, task, write, *level as u32, scratch, fields)?;
     }
     Ok(())
-}
-
-/// Whether a line computes or modifies.
-fn is_of_field(kind: WriteKind) -> bool
-    ensures { result ≡ is_of_field kind }
-{
-    match kind {
-        WriteKind::Computes | WriteKind::Modifies => true,
-        WriteKind::Reduces(_) => false,
-    }
 }
 
 /// Puts the fields that a line gives at the end of `fields`, if it computes or modifies.
@@ -95,16 +88,17 @@ fn push_line(
     moment: &Moment,
     task: &Task,
     write: &Write,
-    memory: &mut Memory,
+    scratch: &mut [i64],
     fields: &mut Items<WrittenField>,
 ) -> Result<(), AllocError>
-    requires task { IsRunnable (problem_at moment.now) task.now }
-    requires line { IsRunnableLine (problem_at moment.now) write.now }
+    requires task { IsRunnable (problem_at moment.now) moment.now.places task.now }
+    requires line { IsRunnableLine (problem_at moment.now) moment.now.places write.now }
+    requires room { moment.now.places ≤ length scratch.old }
     ensures { OnOk result (fields.new ≡ fields.old ++ map (written_of (problem_at moment.now))
         (if is_of_field write.now.kind then line_changes_at moment.now task.now write.now else [])) }
 {
     if is_of_field(write.kind) {
-        push_levels(moment, task, write, memory, fields)
+        push_levels(moment, task, write, scratch, fields)
     } else {
         Ok(())
     }
@@ -114,14 +108,15 @@ fn push_line(
 pub(crate) fn written_fields(
     moment: &Moment,
     task: &Task,
-    memory: &mut Memory,
+    scratch: &mut [i64],
 ) -> Result<Items<WrittenField>, AllocError>
-    requires { IsRunnable (problem_at moment.now) task.now }
+    requires task { IsRunnable (problem_at moment.now) moment.now.places task.now }
+    requires room { moment.now.places ≤ length scratch.old }
     ensures { IfOk result (λ fields. fields ≡ map (written_of (problem_at moment.now)) (field_changes_at moment.now task.now)) }
 {
-    let mut fields = Items::new(memory.alloc);
+    let mut fields = Items::new(moment.alloc);
     for write in task.writes.as_slice() {
-        push_line(moment, task, write, memory, &mut fields)?;
+        push_line(moment, task, write, scratch, &mut fields)?;
     }
     Ok(fields)
 }

@@ -1,11 +1,10 @@
 //! The kernels of tasks, on a level and a material.
-ghost use Rattle.std.specs.Prelude.{◌≡◌, ◌≤◌, ◌∷◌, [], map, fold, IfOk};
-ghost use Rattle.uts_geom.specs.Spans.{IsNearSpan, width_of, indexes_of};
-ghost use Rattle.kernel_ast.specs.Size.{depth_of};
+ghost use Rattle.std.specs.Prelude.{◌≡◌, ◌≤◌, map, fold, length, IfOk};
+ghost use Rattle.uts_geom.specs.Spans.{IsNearSpan, indexes_of};
 ghost use Rattle.reductions.specs.Folding.{combined};
 ghost use Rattle.plain_engine.specs.Moments.{AreReadsAt, kernel_at};
+ghost use Rattle.plain_engine.specs.Runnable.{room_on};
 
-use crate::memory::Memory;
 use crate::moment::Moment;
 use crate::sweep::Sweep;
 use crate::sweeping::{field_numbers, fold_numbers};
@@ -37,11 +36,10 @@ pub(crate) fn kernel_numbers(
     level: u32,
     material: u32,
     span: Span,
-    memory: &mut Memory,
+    scratch: &mut [i64],
 ) -> Result<Items<i64>, AllocError>
-    requires shallow { depth_of kernel.now ≤ 64 }
     requires near { IsNearSpan span }
-    requires narrow { width_of span ≤ 4097 }
+    requires room { room_on kernel.now span ≤ length scratch.old }
     ensures { IfOk result (λ numbers. numbers ≡ map (kernel_at moment.now kernel.now level material) (indexes_of span)) }
 {
     let step = moment.step;
@@ -52,7 +50,12 @@ pub(crate) fn kernel_numbers(
         level,
         span,
     };
-    field_numbers(&sweep, &stores(moment, level, material), memory)
+    field_numbers(
+        moment.alloc,
+        &sweep,
+        &stores(moment, level, material),
+        scratch,
+    )
 }
 
 /// The numbers of a kernel on a level and a material at all indexes of a span, combined with those before them.
@@ -64,11 +67,10 @@ pub(crate) fn kernel_fold(
     level: u32,
     material: u32,
     span: Span,
-    memory: &mut Memory,
+    scratch: &mut [i64],
 ) -> i64
-    requires shallow { depth_of kernel.now ≤ 64 }
     requires near { IsNearSpan span }
-    requires narrow { width_of span ≤ 4097 }
+    requires room { room_on kernel.now span ≤ length scratch.old }
     ensures { result ≡ fold (combined how) total (map (kernel_at moment.now kernel.now level material) (indexes_of span)) }
 {
     let step = moment.step;
@@ -79,5 +81,11 @@ pub(crate) fn kernel_fold(
         level,
         span,
     };
-    fold_numbers(how, total, &sweep, &stores(moment, level, material), memory)
+    fold_numbers(
+        how,
+        total,
+        &sweep,
+        &stores(moment, level, material),
+        scratch,
+    )
 }

@@ -1,12 +1,12 @@
 //! Runs a problem on one thread, over whole fields.
 #![tactic(auto)]
 
-mod bounds;
 mod fields;
 mod kernels;
-mod memory;
 mod moment;
 mod numbers;
+mod places;
+mod plan;
 mod putting;
 mod reducing;
 mod run;

@@ -1,6 +1,3 @@
-ghost use Rattle.std.specs.Prelude.{◌≤◌};
-ghost use Rattle.kernel_ast.specs.Size.{depth_of};
-
 use kernel_ast::Expr;
 use problem_types::{Centring, Fold};
 
@@ -10,5 +7,4 @@ pub(crate) struct Reducing<'a> {
     pub(crate) kernel: &'a Expr,
     pub(crate) centring: Centring,
     pub(crate) how: Fold,
-    ghost shallow: { depth_of kernel.now ≤ 64 },
 }

@@ -7,11 +7,11 @@ ghost use Rattle.dump_text.specs.Writing.{Writes};
 ghost use Rattle.whole_fields.specs.Stored.{state_of};
 ghost use Rattle.plain_engine.specs.Held.{rows_of_step, numbers_of_step};
 
-use crate::bounds::bounds;
 use crate::shown::StepRows;
 use dump_text::{NoMemory, Rows, RunFault, dump_step};
-use problem_types::Problem;
+use problem_lookup::is_dumped;
 use std::alloc::Global;
+use task_check::bounds;
 use uts_io::Sink;
 
 impl Rows for StepRows<'_> {
@@ -36,15 +36,6 @@ impl Rows for StepRows<'_> {
     fn number(&self, name: u32) -> i64 {
         self.warehouse.number(self.checked, name)
     }
-}
-
-/// Whether the dump shows a step.
-fn is_dumped(p: &Problem, step: u32) -> bool
-    requires { 1 ≤ p.now.dump.value }
-    ensures { result ≡ is_dumped p.now step }
-{
-    let step = u64::from(step);
-    step % p.dump.value == 0 || step == p.steps.value
 }
 
 /// Writes what the dump shows of a step, by the warehouse at its end: nothing of a step that is not dumped.

@@ -1,6 +1,4 @@
-ghost use Rattle.std.specs.Prelude.{◌≤◌};
-ghost use Rattle.uts_geom.specs.Spans.{IsNearSpan, width_of};
-ghost use Rattle.kernel_ast.specs.Size.{depth_of};
+ghost use Rattle.uts_geom.specs.Spans.{IsNearSpan};
 
 use kernel_ast::Expr;
 use uts_geom::Span;
@@ -14,6 +12,4 @@ pub(crate) struct Sweep<'a> {
     pub(crate) level: u32,
     pub(crate) span: Span,
     ghost near: { IsNearSpan span },
-    ghost narrow: { width_of span ≤ 4097 },
-    ghost shallow: { depth_of kernel.now ≤ 64 },
 }

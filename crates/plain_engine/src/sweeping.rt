@@ -1,11 +1,13 @@
 //! Kernels that run at each index of a span, row by row.
-ghost use Rattle.std.specs.Prelude.{◌≡◌, ◌≤◌, ◌*◌, ◌++◌, map, fold, length, OnOk, IfOk, ℤ, List};
+ghost use Rattle.std.specs.Prelude.{◌≡◌, ◌≤◌, ◌++◌, map, fold, length, OnOk, IfOk};
 ghost use Rattle.uts_geom.specs.Spans.{indexes_of, row_indexes, width_of};
+ghost use Rattle.kernel_ast.specs.Size.{depth_of};
 ghost use Rattle.kernel_rows.specs.Scratch.{scratch_of};
 ghost use Rattle.reductions.specs.Folding.{combined};
+ghost use Rattle.plain_engine.specs.Runnable.{room_on};
 ghost use Rattle.plain_engine.specs.Sweeps.{number_at, row_on};
 
-use crate::memory::Memory;
+use crate::spaces::width;
 use crate::sweep::Sweep;
 use kernel_rows::{KernelRow, Reads, evaluate};
 use problem_types::Fold;
@@ -39,20 +41,10 @@ fn fill_row<R: Reads>(
     scratch: &mut [i64],
 )
     requires places { length out.old ≡ width_of sweep.now.span }
-    requires room { scratch_of 4097 64 ≤ length scratch.old }
+    requires room { scratch_of (width_of sweep.now.span) (depth_of sweep.now.kernel.now) ≤ length scratch.old }
     ensures { out.new ≡ map (number_at sweep.now (R.numbers reads.now) (R.reductions reads.now)) (row_indexes sweep.now.span y z) }
 {
     evaluate(sweep.kernel, row_at(sweep, y, z), reads, out, scratch);
-}
-
-/// How many indexes a row has.
-fn width(sweep: &Sweep) -> usize
-    ensures width { result ≡ width_of sweep.now.span }
-    ensures narrow { result ≤ 4097 }
-{
-    let low = sweep.span.lo.x;
-    let high = sweep.span.hi.x;
-    if low < high { (high - low) as usize } else { 0 }
 }
 
 /// Puts the kernel's numbers along the row at y and z at the end of `numbers`.
@@ -65,7 +57,7 @@ fn push_row<R: Reads>(
     numbers: &mut Vec<i64>,
 ) -> Result<(), AllocError>
     requires places { length out.old ≡ width_of sweep.now.span }
-    requires room { scratch_of 4097 64 ≤ length scratch.old }
+    requires room { scratch_of (width_of sweep.now.span) (depth_of sweep.now.kernel.now) ≤ length scratch.old }
     ensures { OnOk result (numbers.new.items ≡ numbers.old.items
         ++ map (number_at sweep.now (R.numbers reads.now) (R.reductions reads.now)) (row_indexes sweep.now.span at.0 at.1)) }
 {
@@ -82,12 +74,11 @@ fn numbers_by_rows<R: Reads>(
     out: &mut [i64],
     scratch: &mut [i64],
 ) -> Result<Items<i64>, AllocError>
-    requires places { 4097 ≤ length out.old }
-    requires room { scratch_of 4097 64 ≤ length scratch.old }
+    requires places { length out.old ≡ width_of sweep.now.span }
+    requires room { scratch_of (width_of sweep.now.span) (depth_of sweep.now.kernel.now) ≤ length scratch.old }
     ensures { IfOk result (λ numbers. numbers
         ≡ map (number_at sweep.now (R.numbers reads.now) (R.reductions reads.now)) (indexes_of sweep.now.span)) }
 {
-    let out = &mut out[..width(sweep)];
     let mut numbers = Vec::with_capacity(alloc, volume(sweep.span) as usize)?;
     for at in rows(sweep.span) {
         push_row(sweep, at, reads, out, scratch, &mut numbers)?;
@@ -97,20 +88,17 @@ fn numbers_by_rows<R: Reads>(
 
 /// The kernel's numbers at all indexes of the span, x fastest, then y, then z.
 pub(crate) fn field_numbers<R: Reads>(
+    alloc: Global,
     sweep: &Sweep,
     reads: &R,
-    memory: &mut Memory,
+    scratch: &mut [i64],
 ) -> Result<Items<i64>, AllocError>
+    requires { room_on sweep.now.kernel.now sweep.now.span ≤ length scratch.old }
     ensures { IfOk result (λ numbers. numbers
         ≡ map (number_at sweep.now (R.numbers reads.now) (R.reductions reads.now)) (indexes_of sweep.now.span)) }
 {
-    numbers_by_rows(
-        memory.alloc,
-        sweep,
-        reads,
-        &mut memory.row,
-        &mut memory.scratch,
-    )
+    let (out, parts) = scratch.split_at_mut(width(sweep.span));
+    numbers_by_rows(alloc, sweep, reads, out, parts)
 }
 
 /// The numbers combined with those before them.
@@ -135,7 +123,7 @@ fn fold_along<R: Reads>(
     scratch: &mut [i64],
 ) -> i64
     requires places { length out.old ≡ width_of sweep.now.span }
-    requires room { scratch_of 4097 64 ≤ length scratch.old }
+    requires room { scratch_of (width_of sweep.now.span) (depth_of sweep.now.kernel.now) ≤ length scratch.old }
     ensures { result ≡ fold (combined how) total
         (map (number_at sweep.now (R.numbers reads.now) (R.reductions reads.now)) (row_indexes sweep.now.span at.0 at.1)) }
 {
@@ -153,12 +141,11 @@ fn fold_by_rows<R: Reads>(
     out: &mut [i64],
     scratch: &mut [i64],
 ) -> i64
-    requires places { 4097 ≤ length out.old }
-    requires room { scratch_of 4097 64 ≤ length scratch.old }
+    requires places { length out.old ≡ width_of sweep.now.span }
+    requires room { scratch_of (width_of sweep.now.span) (depth_of sweep.now.kernel.now) ≤ length scratch.old }
     ensures { result ≡ fold (combined how) total
         (map (number_at sweep.now (R.numbers reads.now) (R.reductions reads.now)) (indexes_of sweep.now.span)) }
 {
-    let out = &mut out[..width(sweep)];
     let mut all = total;
     for at in rows(sweep.span) {
         all = fold_along(how, all, sweep, at, reads, out, scratch);
@@ -172,17 +159,12 @@ pub(crate) fn fold_numbers<R: Reads>(
     total: i64,
     sweep: &Sweep,
     reads: &R,
-    memory: &mut Memory,
+    scratch: &mut [i64],
 ) -> i64
+    requires { room_on sweep.now.kernel.now sweep.now.span ≤ length scratch.old }
     ensures { result ≡ fold (combined how) total
         (map (number_at sweep.now (R.numbers reads.now) (R.reductions reads.now)) (indexes_of sweep.now.span)) }
 {
-    fold_by_rows(
-        how,
-        total,
-        sweep,
-        reads,
-        &mut memory.row,
-        &mut memory.scratch,
-    )
+    let (out, parts) = scratch.split_at_mut(width(sweep.span));
+    fold_by_rows(how, total, sweep, reads, out, parts)
 }

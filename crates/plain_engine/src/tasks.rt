@@ -1,21 +1,19 @@
 //! The tasks of a step, in order.
-ghost use Rattle.std.specs.Prelude.{◌≡◌, ◌<◌, length, map, All, IfOk, OnOk};
-ghost use Rattle.problem_types.specs.Lists.{task_list};
+ghost use Rattle.std.specs.Prelude.{◌≡◌, ◌<◌, ◌≤◌, length, map, All, IfOk, OnOk};
 ghost use Rattle.uts_model.specs.WholeField.{after_task, after_tasks, before_step, end_of_step};
 ghost use Rattle.whole_fields.specs.Stored.{IsWarehouseOf, state_of};
 ghost use Rattle.plain_engine.specs.Changes.{IsBlankOutside, IsFieldOf, written_of, field_changes, number_changes};
 ghost use Rattle.plain_engine.specs.Runnable.{IsRunnable};
 ghost use Rattle.plain_engine.specs.declared.written.WrittenNumber.{WrittenNumber};
 
-use crate::bounds::bounds;
 use crate::fields::written_fields;
-use crate::memory::Memory;
 use crate::moment::Moment;
 use crate::numbers::written_numbers;
 use crate::putting::{put_fields, put_numbers};
 use crate::step::Step;
 use crate::written::{WrittenField, WrittenNumber};
-use problem_types::{NoMemory, Problem, Task};
+use problem_lookup::task_list;
+use problem_types::{NoMemory, Task};
 use sqlite_items::Items;
 use std::alloc::AllocError;
 use whole_fields::Warehouse;
@@ -27,13 +25,16 @@ fn moment_of<'a>(step: &Step<'a>, new: &'a Warehouse) -> Moment<'a>
     ensures number { result.step ≡ step.now.number }
     ensures old { result.old ≡ step.now.old }
     ensures new { result.new.now ≡ new.now }
+    ensures places { result.places ≡ step.now.places }
 {
     Moment {
+        alloc: step.alloc,
         checked: step.checked,
         shapes: step.shapes,
         step: step.number,
         old: step.old,
         new,
+        places: step.places,
     }
 }
 
@@ -49,18 +50,19 @@ fn written_by(
     step: &Step,
     task: &Task,
     new: &Warehouse,
-    memory: &mut Memory,
+    scratch: &mut [i64],
 ) -> Result<Written, AllocError>
     requires warehouse { IsWarehouseOf step.now.checked.now new.now }
-    requires task { IsRunnable step.now.checked.now task.now }
+    requires task { IsRunnable step.now.checked.now step.now.places task.now }
+    requires room { step.now.places ≤ length scratch.old }
     ensures fields { IfOk result (λ w. w.fields ≡ map (written_of step.now.checked.now)
         (field_changes step.now.checked.now step.now.number (state_of step.now.checked.now step.now.old.now) (state_of step.now.checked.now new.now) task.now)) }
     ensures numbers { IfOk result (λ w. w.numbers
         ≡ number_changes step.now.checked.now step.now.number (state_of step.now.checked.now step.now.old.now) (state_of step.now.checked.now new.now) task.now) }
 {
     let moment = moment_of(step, new);
-    let fields = written_fields(&moment, task, memory)?;
-    let numbers = written_numbers(&moment, task, memory)?;
+    let fields = written_fields(&moment, task, scratch)?;
+    let numbers = written_numbers(&moment, task, scratch)?;
     Ok(Written { fields, numbers })
 }
 
@@ -69,52 +71,47 @@ fn run_task(
     step: &Step,
     task: &Task,
     new: &mut Warehouse,
-    memory: &mut Memory,
+    scratch: &mut [i64],
 ) -> Result<(), AllocError>
     requires warehouse { IsWarehouseOf step.now.checked.now new.old }
-    requires task { IsRunnable step.now.checked.now task.now }
+    requires task { IsRunnable step.now.checked.now step.now.places task.now }
+    requires room { step.now.places ≤ length scratch.old }
     requires blank { IsBlankOutside step.now.checked.now (state_of step.now.checked.now new.old) }
     ensures warehouse { OnOk result (IsWarehouseOf step.now.checked.now new.new) }
     ensures state { OnOk result (state_of step.now.checked.now new.new
         ≡ after_task step.now.checked.now step.now.number (state_of step.now.checked.now step.now.old.now) (state_of step.now.checked.now new.old) task.now) }
 {
-    let Written { fields, numbers } = written_by(step, task, new, memory)?;
+    let Written { fields, numbers } = written_by(step, task, new, scratch)?;
     put_fields(step.checked, fields, new);
     put_numbers(step.checked, numbers, new);
     Ok(())
 }
 
 /// The warehouse that tasks leave, in order, from the start of a step.
-fn run_tasks(step: &Step, tasks: &[Task], memory: &mut Memory) -> Result<Warehouse, NoMemory>
-    requires { All (IsRunnable step.now.checked.now) tasks.now }
+fn run_tasks(step: &Step, tasks: &[Task], scratch: &mut [i64]) -> Result<Warehouse, NoMemory>
+    requires tasks { All (IsRunnable step.now.checked.now step.now.places) tasks.now }
+    requires room { step.now.places ≤ length scratch.old }
     ensures warehouse { IfOk result (IsWarehouseOf step.now.checked.now) }
     ensures state { IfOk result (λ w. state_of step.now.checked.now w
         ≡ after_tasks step.now.checked.now step.now.number (state_of step.now.checked.now step.now.old.now) tasks.now) }
 {
-    let mut new = Warehouse::unset(memory.alloc, step.checked)?;
+    let mut new = Warehouse::unset(step.alloc, step.checked)?;
     for task in tasks {
-        run_task(step, task, &mut new, memory)?;
+        run_task(step, task, &mut new, scratch)?;
     }
     Ok(new)
 }
 
-/// The tasks of a step.
-fn tasks_of(p: &Problem, step: u32) -> &[Task]
-    ensures { result.now ≡ task_list p.now step }
-{
-    if step == 0 {
-        p.init.as_slice()
-    } else {
-        p.timestep.as_slice()
-    }
-}
-
 /// The warehouse at the end of a step.
-pub(crate) fn end_of_step(step: &Step, memory: &mut Memory) -> Result<Warehouse, NoMemory>
-    requires { state_of step.now.checked.now step.now.old.now ≡ before_step step.now.checked.now step.now.number }
+pub(crate) fn end_of_step(step: &Step, scratch: &mut [i64]) -> Result<Warehouse, NoMemory>
+    requires room { step.now.places ≤ length scratch.old }
+    requires state { state_of step.now.checked.now step.now.old.now ≡ before_step step.now.checked.now step.now.number }
     ensures warehouse { IfOk result (IsWarehouseOf step.now.checked.now) }
     ensures state { IfOk result (λ w. state_of step.now.checked.now w ≡ end_of_step step.now.checked.now step.now.number) }
 {
-    bounds(step.checked);
-    run_tasks(step, tasks_of(step.checked.problem(), step.number), memory)
+    run_tasks(
+        step,
+        task_list(step.checked.problem(), step.number),
+        scratch,
+    )
 }

@@ -6,8 +6,6 @@ mod fault;
 mod laws;
 mod order;
 mod reading;
-#[cfg(test)]
-mod tests;
 
 pub use fault::ParseFault;
 pub use laws::{

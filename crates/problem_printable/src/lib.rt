@@ -8,8 +8,6 @@ mod names;
 mod numbering;
 mod numbers;
 mod progress;
-#[cfg(test)]
-mod tests;
 mod whole;
 
 pub use form::is_printable;

@@ -8,8 +8,6 @@ mod lines;
 mod lookup;
 mod name;
 mod problem;
-#[cfg(test)]
-mod tests;
 
 pub use ascending::is_ascending;
 pub use copying::copy;

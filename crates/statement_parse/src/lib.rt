@@ -7,8 +7,6 @@ mod named;
 mod parse;
 mod pieces;
 mod statement;
-#[cfg(test)]
-mod tests;
 mod words;
 mod writes;
 

@@ -7,7 +7,8 @@ use Rattle.std.specs.List.Sorted.{IsStrictlyIncreasing}
 use Rattle.std.proofs.lemmas.Bool.{cases_order, eqb-true, eq-eqb}
 use Rattle.std.proofs.lemmas.Option.{slice_get_within, get_or_from_slice_get}
 use Rattle.uts_geom.specs.Spans.{counted}
-use Rattle.task_check.proofs.Sums.{from_place, count-one, at-counted, counted-at}
+use Rattle.uts_geom.specs.Counting.{at-counted, counted-at}
+use Rattle.task_check.proofs.Sums.{from_place, count-one}
 
 pub get-take : {A : Type 0} (xs : List A) (n k : ℕ) → k < n → slice_get (take n xs) k ≡ slice_get xs k
 get-take xs zero k below = absurd (omega arith)

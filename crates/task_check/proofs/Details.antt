@@ -5,6 +5,7 @@ use Rattle.std.specs.List.{sum_by}
 use Rattle.std.specs.Option.{option_map_or}
 use Rattle.std.proofs.lemmas.List.Sums.{sum_by-cons, length-filter}
 use Rattle.uts_geom.specs.Spans.{counted}
+use Rattle.uts_geom.specs.Counting.{length-counted}
 use Rattle.problem_types.specs.Form.{IsProblemInForm}
 use Rattle.problem_types.specs.Lists.{is_reduces}
 use Rattle.problem_types.specs.declared.problem.Problem.{Problem}
@@ -16,7 +17,7 @@ use Rattle.task_check.specs.Counts.{detailed_count}
 use Rattle.task_check.specs.First.{IsFaultless}
 use Rattle.task_check.specs.Sizes.{IsTask, details_count, part_count, reduces_count}
 use Rattle.task_check.proofs.Accepted.{keeps_grid_limits, few_levels_of_task, few_materials_of_task, few_lines}
-use Rattle.task_check.proofs.Sums.{length-counted, sum-constant, sum-map, sum-same}
+use Rattle.task_check.proofs.Sums.{sum-constant, sum-map, sum-same}
 use Rattle.task_check.proofs.PlanSums.{by_place-same, by_place-sum, sum-details, sum-on_patches}
 
 module _ {X : Type 0} where

@@ -10,6 +10,10 @@ pub mod Ratios
 pub mod Sums
 pub mod Touching
 pub mod Columns
+pub mod Spreads
+pub mod BoxWindows
+pub mod OldWindows
+pub mod Marks
 pub mod AtPlaces
 pub mod Once
 pub mod PlanSums

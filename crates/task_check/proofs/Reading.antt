@@ -9,6 +9,7 @@ use Rattle.std.proofs.lemmas.List.Elements.{All-contains}
 use Rattle.kernel_ast.specs.declared.expression.Store.{Store}
 use Rattle.uts_geom.specs.Spans.{counted}
 use Rattle.uts_geom.specs.declared.span.Span.{Span}
+use Rattle.uts_geom.specs.Counting.{counted-at, within}
 use Rattle.problem_types.specs.Form.{IsProblemInForm}
 use Rattle.problem_types.specs.Lists.{task_list, is_reduces, centring_of}
 use Rattle.problem_types.specs.declared.problem.Problem.{Problem}
@@ -33,7 +34,7 @@ use Rattle.task_check.specs.declared.plan.reach.Reach.{Reach}
 use Rattle.task_check.specs.declared.plan.reach.Reach.TheVariants as reach
 use Rattle.task_check.specs.Supplies.{seen_of}
 use Rattle.task_check.proofs.Accepted.{placed, levels_below, materials_below, is_known, wanted_below}
-use Rattle.task_check.proofs.Sums.{sum-same, sum-filter, sum-exchange, sum-constant, sum-each, sum-times, count-some, from_place, counted-at, within}
+use Rattle.task_check.proofs.Sums.{sum-same, sum-filter, sum-exchange, sum-constant, sum-each, sum-times, count-some, from_place}
 use Rattle.task_check.proofs.AtPlaces.{contains_at}
 use Rattle.task_check.proofs.Once.{of_both, never_repeats}
 use Rattle.task_check.proofs.PlanSums.{by_place-same, by_place-sum, sum-details, sum-on_patches, sum-combining}

@@ -12,7 +12,7 @@ use Rattle.task_check.specs.Plan.{Slot, is_read}
 use Rattle.task_check.specs.Counts.{slot_size}
 use Rattle.task_check.specs.Tallies.{HasAtMost, IsTally}
 use Rattle.task_check.specs.declared.plan.tally.Tally.{Tally}
-use Rattle.task_check.proofs.Sums.{sum-filter, sum-same, sum-nothing, sum-flat_map, sum-map, sum-exchange}
+use Rattle.task_check.proofs.Sums.{sum-filter, sum-nothing, sum-map}
 
 module _ (p : Problem) (tasks : List Task) where
   abbrev counts : Slot → ℕ
@@ -45,6 +45,12 @@ module _ (p : Problem) (tasks : List Task) where
       numbers_of : (b : Bool) (n : ℕ) → (cond {A = Tally} b (record { slots = 1; numbers = n }) (record { slots = 0; numbers = 0 })).numbers ≡ cond b n 0
       numbers_of true n = refl
       numbers_of false n = refl
+
+  pub tally_read : (s : Slot) (read : Bool) (n : ℕ) (a : Tally) → read ≡ is_read p tasks s → n ≡ slot_size p tasks s →
+      a ≡ cond read (record { slots = 1; numbers = n }) (record { slots = 0; numbers = 0 }) → IsTally p tasks (s ∷ []) a
+  tally_read s read n a same size is = tally_one s a (is
+      ∙ ap (λ (b : Bool). cond {A = Tally} b (record { slots = 1; numbers = n }) (record { slots = 0; numbers = 0 })) same
+      ∙ ap (λ (k : ℕ). cond {A = Tally} (is_read p tasks s) (record { slots = 1; numbers = k }) (record { slots = 0; numbers = 0 })) size)
 
   -- one more number, and one more value
   pub tally_counted : (f : ℕ → List Slot) (k : ℕ) (a b c : Tally) → IsTally p tasks (flat_map f (counted 0 k)) a → IsTally p tasks (f k) b →
@@ -84,19 +90,6 @@ module _ (p : Problem) (tasks : List Task) where
       let numbers : a.numbers ≡ 0 = ap (λ (t : Tally). t.numbers) is in
       tally_both (f x) (flat_map f xs) a a a (each x) (unread_flat_map f xs a is each) (omega (arith, slots)) (omega (arith, numbers))
 
-  -- slots by two numbers, in either order
-  pub tally_exchanged : (f : ℕ → ℕ → Slot) (xs ys : List ℕ) (a : Tally) → IsTally p tasks (flat_map (λ x. map (λ y. f y x) ys) xs) a →
-      IsTally p tasks (flat_map (λ y. map (f y) xs) ys) a
-  tally_exchanged f xs ys a is = record { count = is.count ∙ turned counts; size = is.size ∙ turned sizes }
-    where
-      turned : (h : Slot → ℕ) → sum_by h (flat_map (λ x. map (λ y. f y x) ys) xs) ≡ sum_by h (flat_map (λ y. map (f y) xs) ys)
-      turned h =
-          sum-flat_map h (λ x. map (λ y. f y x) ys) xs
-          ∙ sum-same (λ x. sum_by h (map (λ y. f y x) ys)) (λ x. sum_by (λ y. h (f y x)) ys) xs (λ k x at. sum-map h (λ y. f y x) ys)
-          ∙ sum-exchange (λ x y. h (f y x)) xs ys
-          ∙ sym (sum-flat_map h (λ y. map (f y) xs) ys
-          ∙ sum-same (λ y. sum_by h (map (f y) xs)) (λ y. sum_by (λ x. h (f y x)) xs) ys (λ k y at. sum-map h (f y) xs))
-
   -- a tally of all is what the filter lets through
   pub tally-slots : (ss : List Slot) (a : Tally) → IsTally p tasks ss a → a.slots ≡ length (filter (is_read p tasks) ss)
   tally-slots ss a is = is.count ∙ sym (length-filter (is_read p tasks) ss)
@@ -109,6 +102,10 @@ at_most_more n k a b c before here slots numbers = record {
   slots = omega (arith, slots, before.slots, here.slots);
   numbers = omega (arith, numbers, before.numbers, here.numbers);
 }
+
+pub at_most_one : (read : Bool) (n : ℕ) (a : Tally) → n ≤ 68769820673 → a ≡ cond read (record { slots = 1; numbers = n }) (record { slots = 0; numbers = 0 }) → HasAtMost 1 a
+at_most_one true n a few is = record { slots = rw is (omega arith); numbers = rw is (omega (arith, few)) }
+at_most_one false n a few is = record { slots = rw is (omega arith); numbers = rw is (omega arith) }
 
 pub at_most : (m n : ℕ) (a : Tally) → m ≤ n → HasAtMost m a → HasAtMost n a
 at_most m n a within few = record { slots = omega (arith, within, few.slots); numbers = omega (arith, within, few.numbers) }

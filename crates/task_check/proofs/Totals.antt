@@ -1,18 +1,10 @@
--- Totals that are given up once they are above the limit on reads, and what requirements reach.
-use Rattle.std.proofs.Common.{◌≡◌, ◌∙◌, ◌≤◌, ◌<◌, ◌+◌, ◌*◌, ℕ, List, Bool, true, false, Option, Some, None, length, get_or, take, ap, sym, arith, subst}
+-- Totals that are given up once they are above the limit on reads, and what the checks say of requirements.
+use Rattle.std.proofs.Common.{◌≡◌, ◌∙◌, ◌≤◌, ◌<◌, ◌+◌, ◌*◌, ℕ, List, Option, None, length, get_or, take, ap, sym, arith, subst}
 use Rattle.std.specs.List.{sum_by}
 use Rattle.std.proofs.Math.Nat.{mul-le-mul_left}
 use Rattle.std.proofs.lemmas.List.Sums.{sum_by_more, sum_by_more_le}
-use Rattle.kernel_ast.specs.declared.expression.Store.{Store}
-use Rattle.kernel_ast.specs.declared.expression.Store.TheVariants as store
-use Rattle.ghost_rules.specs.Windows.{AreFewSeen}
-use Rattle.problem_types.specs.declared.problem.Ghost.{Ghost}
-use Rattle.problem_types.specs.declared.problem.GhostKind.{GhostKind}
-use Rattle.problem_types.specs.declared.problem.GhostKind.TheVariants as ghosts
 use Rattle.problem_types.specs.declared.problem.Task.{Task}
-use Rattle.problem_types.specs.declared.problem.What.{What}
-use Rattle.problem_types.specs.declared.problem.What.TheVariants as what
-use Rattle.task_rules.specs.Lines.{wanted_level, has_modifies}
+use Rattle.task_rules.specs.Lines.{wanted_level}
 use Rattle.std.specs.Prelude.{Contains}
 use Rattle.std.proofs.lemmas.Option.{slice_get-get_or}
 use Rattle.std.proofs.lemmas.List.Elements.{All-contains}
@@ -24,11 +16,7 @@ use Rattle.task_check.specs.Places.{IsRequireAt}
 use Rattle.task_check.specs.Sizes.{IsTask}
 use Rattle.task_check.proofs.Accepted.{few_layers, levels_below, wanted_below}
 use Rattle.task_check.specs.Supplies.{layers_of}
-use Rattle.task_check.specs.Supplies.{seen_by_kind, seen_of}
-use Rattle.task_check.specs.Reaches.{IsFewReached, reach_of, reached_level}
 use Rattle.task_check.specs.Reading.{IsUpToLimit}
-use Rattle.task_check.specs.declared.plan.reach.Reach.{Reach}
-use Rattle.task_check.specs.declared.plan.reach.Reach.TheVariants as reach
 
 -- a total above the limit is given up
 pub given_up : (n : ℕ) (o : Option ℕ) → o ≡ None → 2097152 < n → IsUpToLimit n o
@@ -57,32 +45,6 @@ pub times_above : {X : Type 0} (k : ℕ) (g : X → ℕ) (xs ys : List X) (i : �
     total ≡ before + sum_by (λ x. k * g x) (take i xs) → k' ≡ k → more ≡ g (get_or ys i d) → 2097152 < total + k' * more → 2097152 < before + sum_by (λ x. k * g x) xs
 times_above k g xs ys i d before total k' more same below so_far same_k term above =
     total_above (λ x. k * g x) xs ys i d before total (k' * more) same below so_far (ap (λ n. n * more) same_k ∙ ap (λ n. k * n) term) above
-
-few_seen : (modifies : Bool) (layers : Ghost) (k : GhostKind) (at : Store) → layers.n ≤ 8 → AreFewSeen (seen_by_kind modifies layers k at)
-few_seen true layers ghosts.None store.New few = tt
-few_seen true layers ghosts.None store.Old few = few
-few_seen true layers ghosts.Cells at few = few
-few_seen true layers ghosts.Nodes at few = few
-few_seen true layers ghosts.FaceX at few = few
-few_seen true layers ghosts.FaceY at few = few
-few_seen true layers ghosts.FaceZ at few = few
-few_seen false layers k at few = few
-
--- a requirement of few layers reaches few
-pub few_reached : (t : Task) (at : Store) (w : What) (r : Reach) → reach_of t at w ≡ Some r → layers_of w ≤ 8 → IsFewReached r
-few_reached t at (what.Same var layers) r is few =
-    let same : reach.Same (seen_of t var at layers) ≡ r = cc in
-    subst IsFewReached same (few_seen (has_modifies t.writes var) layers layers.kind at few)
-few_reached t at (what.Coarse var layers) r is few = let same : reach.Coarse layers ≡ r = cc in subst IsFewReached same few
-few_reached t at (what.Fine var) r is few = let same : reach.Fine ≡ r = cc in subst IsFewReached same tt
-few_reached t at (what.Number name) r is few = absurd cc
-
--- it reaches the level that it wants
-pub reaches_wanted : (t : Task) (at : Store) (w : What) (r : Reach) (level : ℕ) → reach_of t at w ≡ Some r → reached_level r level ≡ wanted_level w level
-reaches_wanted t at (what.Same var layers) r level is = let same : r ≡ reach.Same (seen_of t var at layers) = cc in ap (λ (x : Reach). reached_level x level) same
-reaches_wanted t at (what.Coarse var layers) r level is = let same : r ≡ reach.Coarse layers = cc in ap (λ (x : Reach). reached_level x level) same
-reaches_wanted t at (what.Fine var) r level is = let same : r ≡ reach.Fine = cc in ap (λ (x : Reach). reached_level x level) same
-reaches_wanted t at (what.Number name) r level is = absurd cc
 
 -- What the checks of a task say of one of its requirements.
 pub record IsSound (p : Problem) (level : ℕ) (r : Require) : Type 0 where

@@ -12,12 +12,13 @@ use Rattle.uts_geom.specs.Spans.{index, counted, from_to, row_indexes, indexes_o
 use Rattle.uts_geom.specs.Centrings.{is_point_like}
 use Rattle.uts_geom.specs.declared.centring.Axis.TheVariants.{X, Y, Z}
 use Rattle.uts_geom.specs.declared.centring.Centring.{Centring}
+use Rattle.uts_geom.specs.Counting.{length-counted}
 use Rattle.problem_types.specs.Levels.{HasNearBounds, KeepsGridLimits}
 use Rattle.problem_types.specs.Regions.{end_of, space_of}
 use Rattle.problem_types.specs.declared.problem.BoxLine.{BoxLine}
 use Rattle.problem_types.specs.declared.problem.Level.{Level}
 use Rattle.patch_regions.specs.Regions.{patch_at, reaching, owned_span}
-use Rattle.task_check.proofs.Sums.{length-counted, sum-constant}
+use Rattle.task_check.proofs.Sums.{sum-constant}
 use Rattle.task_check.proofs.Details.{sum-alike}
 
 length-from_to : (low high : ℤ) → length (from_to low high) ≡ int_gap low high

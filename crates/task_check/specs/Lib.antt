@@ -12,6 +12,7 @@ pub mod Columns
 pub mod PlanSums
 pub mod Reading
 pub mod OldSlots
+pub mod Marks
 pub mod Tallies
 pub mod Sizes
 pub mod Laws

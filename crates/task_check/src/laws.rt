@@ -1,6 +1,9 @@
-//! Laws on the first faults of problems.
+//! Laws on the first faults of problems, and on what a problem without faults keeps.
+ghost use Rattle.problem_types.specs.Form.{IsProblemInForm};
+ghost use Rattle.task_check.specs.Bounds.{IsBounded};
 ghost use Rattle.task_check.specs.Laws.{ProblemsAreJudged, FirstFaultsAreOne, AcceptedProblemsHaveNone, AcceptedProblemsAreBounded};
 
+use crate::checked::Checked;
 use uts_geom::spans_hold_their_indexes;
 
 /// Each problem in form is accepted, or has a first fault.
@@ -25,3 +28,12 @@ pub fn accepted_problems_have_none()
 pub fn accepted_problems_are_bounded()
     ensures { AcceptedProblemsAreBounded }
 {}
+
+/// What a checked problem keeps: the rules of form, and what `accepted_problems_are_bounded` says of it.
+pub fn bounds(c: &Checked)
+    ensures form { IsProblemInForm c.now }
+    ensures limits { IsBounded c.now }
+{
+    accepted_problems_are_bounded();
+    let _problem = c.problem();
+}

@@ -3,8 +3,6 @@
 
 mod checked;
 mod checking;
-#[cfg(test)]
-mod checking_tests;
 mod fault;
 mod keeps;
 mod kinds;
@@ -26,6 +24,6 @@ pub use checked::Checked;
 pub use checking::{Refusal, check};
 pub use fault::{Fault, FaultKind, Which};
 pub use laws::{
-    accepted_problems_are_bounded, accepted_problems_have_none, first_faults_are_one,
+    accepted_problems_are_bounded, accepted_problems_have_none, bounds, first_faults_are_one,
     problems_are_judged,
 };

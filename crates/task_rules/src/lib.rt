@@ -2,14 +2,10 @@
 #![tactic(auto)]
 
 mod computed;
-#[cfg(test)]
-mod computed_tests;
 mod levels;
 mod lines;
 mod modifies;
 mod names;
-#[cfg(test)]
-mod names_tests;
 mod neighbours;
 mod reads;
 

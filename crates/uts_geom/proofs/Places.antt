@@ -12,7 +12,8 @@ use Rattle.std.proofs.lemmas.Bool.{and_parts}
 use Rattle.uts_geom.specs.declared.index.Index.{Index}
 use Rattle.uts_geom.specs.declared.span.Span.{Span}
 use Rattle.uts_geom.specs.Spans.{index, is_between, is_inside, counted, from_to, by_rows, row_indexes, indexes_of, all_rows, rows_of, width_of, height_of, depth_of}
-use Rattle.uts_geom.proofs.Pieces.{length-counted, get-counted, length-pieces, get-pieces}
+use Rattle.uts_geom.specs.Counting.{length-counted, get-counted}
+use Rattle.uts_geom.proofs.Pieces.{length-pieces, get-pieces}
 
 pub length-from_to : (low high : ℤ) → length (from_to low high) ≡ int_gap low high
 length-from_to low high = length-map (counted 0 (int_gap low high)) (λ k. low +ℤ pos k) ∙ length-counted 0 (int_gap low high)

@@ -1,3 +1,4 @@
 pub mod Centrings
 pub mod Spans
 pub mod Rows
+pub mod Counting

@@ -7,8 +7,6 @@ mod lookups;
 mod moments;
 mod numbers;
 mod operations;
-#[cfg(test)]
-mod tests;
 mod witness;
 
 pub use task_check::Checked;

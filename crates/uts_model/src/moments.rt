@@ -6,6 +6,7 @@ ghost use Rattle.uts_model.specs.Grids.{IsSameOrFar};
 ghost use Rattle.uts_model.specs.Moments.{moment_of, end_before, IsPlace};
 
 use crate::grid::{coarse_index, moved};
+use problem_lookup::task_list;
 use problem_types::{Problem, Store, Task};
 use uts_geom::Index;
 
@@ -33,17 +34,6 @@ pub(crate) struct Place<'a> {
     pub step: u32,
     pub tasks: usize,
     pub site: Site,
-}
-
-/// The tasks of a step.
-pub(crate) fn task_list(problem: &Problem, step: u32) -> &[Task]
-    ensures { result.now ≡ task_list problem.now step }
-{
-    if step == 0 {
-        problem.init.as_slice()
-    } else {
-        problem.timestep.as_slice()
-    }
 }
 
 /// A task of a step by its place.

@@ -8,11 +8,10 @@ ghost use Rattle.uts_model.specs.Folds.{numbers_of_children, numbers_on, numbers
 ghost use Rattle.uts_model.specs.Moments.{state_of, environment_at, IsMoment, IsPlace};
 
 use crate::grid::{child_count, children, index_at, is_in_space, space};
-use crate::lookups::{
-    centring_of, field_kernel, fold_of, outside_of, reduced_centring, reduction_write,
-};
+use crate::lookups::{field_kernel, reduced_centring};
 use crate::moments::{Moment, Place, Site, above, below, beside, moment_of, task_at};
 use crate::operations::{apply, is_zero};
+use problem_lookup::{centring_of, fold_of, outside_of, reduction_write};
 use problem_types::{Expr, Fold, How, Problem, Read, Store, Task, Write};
 use reductions::{combine, identity, wsub};
 use uts_geom::volume;

@@ -1,23 +1,13 @@
 //! The number of a variable at an index, a witness for tests.
 ghost use Rattle.std.specs.Prelude.{◌≡◌, ◌<◌, ◌≤◌, IfSome, length, slice_get};
-ghost use Rattle.problem_types.specs.Form.{IsProblemInForm};
-ghost use Rattle.task_check.specs.Bounds.{IsBounded};
 ghost use Rattle.uts_model.specs.WholeField.{field_at, task_count};
 
 use crate::lookups::variable_name;
-use crate::moments::{Moment, Site, task_list};
+use crate::moments::{Moment, Site};
 use crate::numbers::field;
-use task_check::{Checked, accepted_problems_are_bounded};
+use problem_lookup::task_list;
+use task_check::{Checked, bounds};
 use uts_geom::Index;
-
-/// What is known of a checked problem.
-fn bounds(c: &Checked)
-    ensures form { IsProblemInForm c.now }
-    ensures bounded { IsBounded c.now }
-{
-    accepted_problems_are_bounded();
-    let _problem = c.problem();
-}
 
 /// The number of a variable, by its place among the declarations, at the end of a step: on a material and a level, at any index. It is
 /// found by plain recursion, each time anew, so it is slow: for tests of small problems.

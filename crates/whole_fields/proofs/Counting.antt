@@ -12,11 +12,11 @@ use Rattle.uts_geom.specs.declared.centring.Centring.{Centring}
 use Rattle.uts_geom.specs.declared.index.Index.{Index}
 use Rattle.uts_geom.specs.declared.span.Span.{Span}
 use Rattle.uts_geom.specs.Spans.{index, is_between, counted}
+use Rattle.uts_geom.specs.Counting.{length-counted}
 use Rattle.problem_types.specs.Regions.{children_along}
 use Rattle.problem_types.specs.declared.problem.Fold.TheVariants.{Sum}
 use Rattle.reductions.specs.Folding.{all_combined, combined}
 use Rattle.whole_fields.specs.Children.{children_in, children_on_x, children_on_y, children_on_z, inner_children}
-use Rattle.whole_fields.proofs.Lists.{length-counted}
 
 one_added : (n : ℕ) → n + 1 < 2 ^ 63 → combined Sum (pos n) (pos 1) ≡ pos (n + 1)
 one_added n small = int_wrap_fits w64 (pos n +ℤ pos 1) (let fits : FitsSigned w64 (pos n +ℤ pos 1) = grind (arith, ints) in fits) ∙ grind (arith, ints)

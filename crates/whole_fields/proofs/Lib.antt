@@ -1,5 +1,5 @@
 pub mod Lists
-pub mod Spaces
+pub mod LevelSpaces
 pub mod Among
 pub mod States
 pub mod Undeclared

@@ -7,35 +7,13 @@ use Rattle.std.proofs.Math.Path.{fun_ext}
 use Rattle.std.proofs.lemmas.List.{ext_get_or, length-map, map-append, get_or-map, get_or_append_left, get_or-append_right}
 use Rattle.std.proofs.lemmas.Option.{get_or_from_slice_get}
 use Rattle.uts_geom.specs.Spans.{counted}
+use Rattle.uts_geom.specs.Counting.{length-counted, get-counted}
 
--- an item of two lists joined
-pub get_left : {A : Type 0} (xs ys : List A) (k : ℕ) → k < length xs → slice_get (xs ++ ys) k ≡ slice_get xs k
-get_left [] ys k below = absurd (omega arith)
-get_left (x ∷ xs) ys zero below = refl
-get_left (x ∷ xs) ys (suc k) below = get_left xs ys k (omega arith)
-
-pub get_right : {A : Type 0} (xs ys : List A) (n k : ℕ) → n ≡ length xs + k → slice_get (xs ++ ys) n ≡ slice_get ys k
-get_right [] ys n k at = ap (slice_get ys) (let e : n ≡ k = omega arith in e)
-get_right (x ∷ xs) ys zero k at = absurd (omega arith)
-get_right (x ∷ xs) ys (suc n) k at = get_right xs ys n k (omega arith)
-
+-- what is left of two lists joined
 pub drop_right : {A : Type 0} (xs ys : List A) (n k : ℕ) → n ≡ length xs + k → drop n (xs ++ ys) ≡ drop k ys
 drop_right [] ys n k at = ap (λ (j : ℕ). drop j ys) (let e : n ≡ k = omega arith in e)
 drop_right (x ∷ xs) ys zero k at = absurd (omega arith)
 drop_right (x ∷ xs) ys (suc n) k at = drop_right xs ys n k (omega arith)
-
-pub length-counted : (low n : ℕ) → length (counted low n) ≡ n
-length-counted low zero = refl
-length-counted low (suc n) = length-append (counted low n) ((low + n) ∷ []) ∙ omega (arith, length-counted low n)
-
-pub get-counted : (low n k : ℕ) → k < n → slice_get (counted low n) k ≡ Some (low + k)
-get-counted low zero k below = absurd (omega arith)
-get-counted low (suc n) k below = by_case (eq-or-lt_of_le (let le : k ≤ n = omega arith in le)) (λ less. get-counted low n k less)
-  where
-    by_case : (k ≡ n) ⊎ (k < n) → (k < n → slice_get (counted low n) k ≡ Some (low + k)) → slice_get (counted low (suc n)) k ≡ Some (low + k)
-    by_case (inl same) before =
-        get_right (counted low n) ((low + n) ∷ []) k 0 (omega (arith, length-counted low n)) ∙ ap (λ (j : ℕ). Some (low + j)) (sym same)
-    by_case (inr less) before = get_left (counted low n) ((low + n) ∷ []) k (omega (arith, length-counted low n)) ∙ before less
 
 -- an item of a list whose items are all one
 pub item_of_replicate : {A : Type 0} (n : ℕ) (item : A) (k : ℕ) → slice_index_or (replicate n item) k item ≡ item

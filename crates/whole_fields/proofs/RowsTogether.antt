@@ -11,7 +11,8 @@ use Rattle.std.proofs.lemmas.Option.{same_Some, slice_get-map, slice_get_within,
 use Rattle.uts_geom.specs.declared.index.Index.{Index}
 use Rattle.uts_geom.specs.declared.span.Span.{Span}
 use Rattle.uts_geom.specs.Spans.{index, counted, from_to, row_indexes, indexes_of, width_of}
-use Rattle.whole_fields.proofs.Lists.{get_left, get_right, drop_right, length-counted, get-counted}
+use Rattle.uts_geom.specs.Counting.{get_left, get_right, length-counted, get-counted}
+use Rattle.whole_fields.proofs.Lists.{drop_right}
 
 pub length-from_to : (low high : ℤ) → length (from_to low high) ≡ int_gap low high
 length-from_to low high = length-map (counted 0 (int_gap low high)) (λ k. low +ℤ pos k) ∙ length-counted 0 (int_gap low high)

@@ -1,14 +1,13 @@
 //! What variables are declared as, by name.
 ghost use Rattle.std.specs.Prelude.{◌≡◌, IfOk};
-ghost use Rattle.problem_types.specs.Lists.{variable_named};
 ghost use Rattle.whole_fields.specs.Shapes.{IsShapesOf, no_shape, shape_of, shape_named};
 
 use crate::NoMemory;
-use crate::bounds::bounds;
-use problem_types::{Problem, Var};
+use problem_lookup::{centring_of, outside_of};
+use problem_types::Problem;
 use sqlite_items::Items;
 use std::alloc::Global;
-use task_check::Checked;
+use task_check::{Checked, bounds};
 use uts_geom::Centring;
 
 /// The centring of a variable, and its number outside its index space.
@@ -35,23 +34,13 @@ fn no_shape() -> Shape
     }
 }
 
-/// The first declaration of a variable of this name.
-fn variable(p: &Problem, name: u32) -> Option<Var>
-    ensures { result ≡ variable_named p.now name }
-{
-    p.vars.as_slice().iter().copied().find(|v| v.name == name)
-}
-
 /// The shape that a name is declared with.
 fn declared(p: &Problem, name: u32) -> Shape
     ensures { result ≡ shape_of p.now name }
 {
-    match variable(p, name) {
-        Some(v) => Shape {
-            centring: v.centring,
-            outside: v.outside,
-        },
-        None => no_shape(),
+    Shape {
+        centring: centring_of(p, name),
+        outside: outside_of(p, name),
     }
 }
 

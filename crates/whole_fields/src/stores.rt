@@ -13,10 +13,10 @@ ghost use Rattle.whole_fields.specs.Shapes.{IsShapesOf};
 ghost use Rattle.whole_fields.specs.Stored.{IsWarehouseOf, state_of};
 ghost use Rattle.whole_fields.specs.Views.{IsSpaceOn, number_in};
 
-use crate::bounds::ratio_on;
 use crate::coarse::{coarse, fill_coarse};
 use crate::fine::FineFold;
 use crate::shapes::Shapes;
+use crate::spaces::ratio_on;
 use crate::views::{FieldView, ones};
 use crate::warehouse::Warehouse;
 use kernel_ast::{How, Read, Store};

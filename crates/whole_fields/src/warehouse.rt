@@ -10,12 +10,12 @@ ghost use Rattle.whole_fields.specs.Shapes.{IsShapesOf, shape_of};
 ghost use Rattle.whole_fields.specs.Views.{IsSpaceOn, number_in};
 
 use crate::NoMemory;
-use crate::bounds::{bounds, space_on};
 use crate::shapes::{Shape, Shapes};
+use crate::spaces::space_on;
 use crate::views::FieldView;
 use sqlite_items::Items;
 use std::alloc::Global;
-use task_check::Checked;
+use task_check::{Checked, bounds};
 use uts_geom::{indexes_stand_once, spans_hold_their_indexes};
 
 /// The fields and the reductions of a problem at a moment of its run. A field has a number for each index of its index space, x

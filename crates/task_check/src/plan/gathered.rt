@@ -13,7 +13,7 @@ ghost use Rattle.task_check.specs.Plan.{details_of, patches_of};
 ghost use Rattle.task_check.specs.Sizes.{IsTask, gathered_on, gathers_above, is_any_above};
 
 use crate::plan::details::{part_count, patch_count, reduces_count};
-use crate::plan::windows::{level_at, wanted_window};
+use crate::plan::windows::{level_at, wanted_level, wanted_window};
 use crate::slices::tasks;
 use crate::supplies::centring_of;
 use patch_regions::index_space;
@@ -32,18 +32,6 @@ fn stored_on(l: &Level, c: Centring, window: Span) -> u64
         volume(stored)
     } else {
         0
-    }
-}
-
-/// The level on which a requirement wants its variable, by the task's level.
-fn wanted_level(what: What, level: u64) -> u64
-    requires { level < 4 }
-    ensures { result ≡ wanted_level what level }
-{
-    match what {
-        What::Same { .. } | What::Number { .. } => level,
-        What::Coarse { .. } => level.saturating_sub(1),
-        What::Fine { .. } => level + 1,
     }
 }
 

@@ -11,7 +11,7 @@ ghost use Rattle.task_check.specs.Plan.{Old, OldNumber, is_read, old_numbers, ol
 ghost use Rattle.task_check.specs.Tallies.{HasAtMost, IsTally};
 
 use crate::plan::details::patch_count;
-use crate::plan::old_reads::{is_number_read, is_required, is_touched, is_variable_read};
+use crate::plan::old_reads::{is_number_read, is_required, read_patches};
 use crate::plan::tally::Tally;
 use crate::plan::windows::level_at;
 use crate::supplies::centring_of;
@@ -60,52 +60,23 @@ fn owned_count(p: &Problem, c: Centring, level: u64, patch: u32) -> u64
     volume(owned(level_at(p, level), patch, c))
 }
 
-/// The tally of a variable on a patch of a level, for a material.
-fn of_patch(p: &Problem, list: usize, name: u32, level: u64, material: u64, patch: u32) -> Tally
+/// The tally of a variable on a level, for a material.
+fn of_material(p: &Problem, list: usize, name: u32, level: u64, material: u64) -> Tally
     requires form { IsProblemInForm p.now }
     requires faultless { IsFaultless p.now }
     requires list { list < 2 }
     requires level { level < length p.now.levels }
-    requires patch { (l : Level) → slice_get p.now.levels level ≡ Some l → patch < length l.patches }
-    ensures tally { IsTally p.now (task_list p.now list) (Old name level material patch ∷ []) result }
-    ensures few { HasAtMost 1 result }
+    ensures tally { IsTally p.now (task_list p.now list) (map (Old name level material) (patches_of p.now level)) result }
+    ensures few { HasAtMost 1024 result }
 {
-    let read = is_variable_read(p, list, name, level, material, patch);
-    of_slot(read, owned_count(p, centring_of(p, name), level, patch))
-}
-
-/// The tally of a variable on a patch of a level, for all materials.
-fn of_materials(p: &Problem, list: usize, name: u32, level: u64, patch: u32) -> Tally
-    requires form { IsProblemInForm p.now }
-    requires faultless { IsFaultless p.now }
-    requires list { list < 2 }
-    requires level { level < length p.now.levels }
-    requires patch { (l : Level) → slice_get p.now.levels level ≡ Some l → patch < length l.patches }
-    ensures tally { IsTally p.now (task_list p.now list) (map (λ material. Old name level material patch) (counted 0 p.now.materials.value)) result }
-    ensures few { HasAtMost 8 result }
-{
+    let read = read_patches(p, list, name, level, material);
+    let c = centring_of(p, name);
     let mut tally = of_slot(false, 0);
-    for material in 0..p.materials.value {
-        tally = both(tally, of_patch(p, list, name, level, material, patch));
+    for patch in 0..patch_count(p, level) {
+        let numbers = owned_count(p, c, level, patch as u32);
+        tally = both(tally, of_slot(read[patch], numbers));
     }
     tally
-}
-
-/// The same, where few patches are read.
-fn of_materials_if_touched(p: &Problem, list: usize, name: u32, level: u64, patch: u32) -> Tally
-    requires form { IsProblemInForm p.now }
-    requires faultless { IsFaultless p.now }
-    requires list { list < 2 }
-    requires level { level < length p.now.levels }
-    requires patch { (l : Level) → slice_get p.now.levels level ≡ Some l → patch < length l.patches }
-    ensures tally { IsTally p.now (task_list p.now list) (map (λ material. Old name level material patch) (counted 0 p.now.materials.value)) result }
-    ensures few { HasAtMost 8 result }
-{
-    if is_touched(p, list, name, level, patch) {
-        of_materials(p, list, name, level, patch)
-    } else {
-        of_slot(false, 0)
-    }
 }
 
 /// The tally of a variable on a level.
@@ -116,11 +87,11 @@ fn of_level(p: &Problem, list: usize, name: u32, level: u64) -> Tally
     requires level { level < length p.now.levels }
     ensures tally { IsTally p.now (task_list p.now list)
         (flat_map (λ material. map (Old name level material) (patches_of p.now level)) (counted 0 p.now.materials.value)) result }
-    ensures few { HasAtMost (8 * 1024) result }
+    ensures few { HasAtMost (1024 * 8) result }
 {
     let mut tally = of_slot(false, 0);
-    for patch in 0..patch_count(p, level) as u32 {
-        tally = both(tally, of_materials_if_touched(p, list, name, level, patch));
+    for material in 0..p.materials.value {
+        tally = both(tally, of_material(p, list, name, level, material));
     }
     tally
 }
@@ -133,7 +104,7 @@ fn of_levels(p: &Problem, list: usize, name: u32) -> Tally
     ensures tally { IsTally p.now (task_list p.now list)
         (flat_map (λ level. flat_map (λ material. map (Old name level material) (patches_of p.now level)) (counted 0 p.now.materials.value))
         (counted 0 (length p.now.levels))) result }
-    ensures few { HasAtMost (8 * 1024 * 4) result }
+    ensures few { HasAtMost (1024 * 8 * 4) result }
 {
     let mut tally = of_slot(false, 0);
     for level in 0..p.levels.len() as u64 {
@@ -150,7 +121,7 @@ fn of_variable(p: &Problem, list: usize, name: u32) -> Tally
     ensures tally { IsTally p.now (task_list p.now list)
         (flat_map (λ level. flat_map (λ material. map (Old name level material) (patches_of p.now level)) (counted 0 p.now.materials.value))
         (counted 0 (length p.now.levels))) result }
-    ensures few { HasAtMost (8 * 1024 * 4) result }
+    ensures few { HasAtMost (1024 * 8 * 4) result }
 {
     if is_required(p, list, name) {
         of_levels(p, list, name)
@@ -165,7 +136,7 @@ fn of_variables(p: &Problem, list: usize) -> Tally
     requires faultless { IsFaultless p.now }
     requires list { list < 2 }
     ensures tally { IsTally p.now (task_list p.now list) (old_variables p.now) result }
-    ensures few { HasAtMost (8 * 1024 * 4 * 64) result }
+    ensures few { HasAtMost (1024 * 8 * 4 * 64) result }
 {
     let mut tally = of_slot(false, 0);
     for v in p.vars.as_slice() {

@@ -1,28 +1,34 @@
 //! The windows that requirements ask for around the patches of a task.
-ghost use Rattle.std.specs.Prelude.{◌≡◌, ◌+◌, ◌<◌, ◌≤◌, ◌+ℤ◌, ◌*ℤ◌, pos, if◌then◌else◌, length, slice_get, Some};
-ghost use Rattle.uts_geom.specs.Spans.{IsNearNumber, IsNearSpan};
-ghost use Rattle.problem_types.specs.Form.{IsProblemInForm};
+ghost use Rattle.std.specs.Prelude.{◌≡◌, ◌+◌, ◌<◌, ◌≤◌, ◌+ℤ◌, ◌*ℤ◌, ◌∷◌, [], pos, if◌then◌else◌, length, slice_get, IsFalse, Some};
+ghost use Rattle.std.specs.List.{list_any};
+ghost use Rattle.kernel_ast.specs.declared.expression.Store.TheVariants as store;
+ghost use Rattle.uts_geom.specs.Spans.{IsNearNumber, IsNearSpan, counted};
+ghost use Rattle.uts_geom.specs.declared.span.Span.{Span};
+ghost use Rattle.problem_types.specs.Form.{IsProblemInForm, IsWhatInForm};
 ghost use Rattle.problem_types.specs.Levels.{HasNearBounds, KeepsGridLimits, cells_of};
 ghost use Rattle.problem_types.specs.Lists.{centring_of};
 ghost use Rattle.problem_types.specs.Regions.{ratio_of};
 ghost use Rattle.problem_types.specs.declared.problem.Level.{Level};
+ghost use Rattle.problem_types.specs.declared.problem.Task.{Task};
 ghost use Rattle.grid_levels.specs.Good.{divided};
-ghost use Rattle.patch_regions.specs.Regions.{patch_at};
+ghost use Rattle.patch_regions.specs.Regions.{do_meet, patch_at};
+ghost use Rattle.task_rules.specs.Lines.{wanted_level};
 ghost use Rattle.ghost_rules.specs.Windows.{AreFewSeen};
 ghost use Rattle.task_check.specs.First.{IsFaultless};
 ghost use Rattle.task_check.specs.Supplies.{layers_of};
-ghost use Rattle.task_check.specs.Plan.{refined, wanted_window, window_seen};
+ghost use Rattle.task_check.specs.Plan.{is_of_number, refined, wanted_window, window_seen};
 ghost use Rattle.task_check.specs.Reaches.{IsFewReached, reach_window};
 ghost use Rattle.task_check.specs.Supplies.{seen_by_kind, seen_of};
 
 use crate::plan::reach::Reach;
 use crate::supplies::{centring_of, seen_of};
 use ghost_rules::{Seen, window};
-use patch_regions::{owned, patch_box, patch_line};
+use patch_regions::{index_space, owned, patch_box, patch_line, spans_meet_in_indexes};
 use problem_types::{
     BoxLine, Centring, Ghost, GhostKind, Level, Problem, Require, Store, Task, Var, What, Write,
     WriteKind,
 };
+use task_rules::wanted_name;
 use uts_geom::{Axis, Index, Span, point_like};
 
 /// The level of this number.
@@ -31,6 +37,18 @@ pub(crate) fn level_at(p: &Problem, level: u64) -> &Level
     ensures { slice_get p.now.levels level ≡ Some result.now }
 {
     &p.levels.as_slice()[level as usize]
+}
+
+/// The level on which a requirement wants its variable, by the task's level.
+pub(crate) fn wanted_level(what: What, level: u64) -> u64
+    requires { level < 4 }
+    ensures { result ≡ wanted_level what level }
+{
+    match what {
+        What::Same { .. } | What::Number { .. } => level,
+        What::Coarse { .. } => level.saturating_sub(1),
+        What::Fine { .. } => level + 1,
+    }
 }
 
 /// The refinement ratio of a level to the next coarser one, 1 where there is no such level.
@@ -125,6 +143,39 @@ pub(crate) fn reach_window(p: &Problem, reach: Reach, c: Centring, level: u64, p
             window(layers, c, coarse)
         }
         Reach::Fine => refined(c, ratio_of(p, level + 1), patch_line(l, patch)),
+    }
+}
+
+/// The line of the level's box.
+fn box_line(l: &Level) -> BoxLine
+    requires { KeepsGridLimits l.now }
+    ensures line { l.now.boxes ≡ result ∷ [] }
+    ensures near { HasNearBounds result }
+{
+    l.boxes.as_slice()[0]
+}
+
+/// The windows that a requirement of a variable at the end of the step before asks for around the patches of a level, together: what the
+/// requirement asks for around the level's box.
+pub(crate) fn box_window(p: &Problem, what: What, from: u64) -> Span
+    requires form { IsProblemInForm p.now }
+    requires faultless { IsFaultless p.now }
+    requires what { IsWhatInForm (length p.now.names) what }
+    requires variable { IsFalse (is_of_number what) }
+    requires few { layers_of what ≤ 8 }
+    requires from { from < length p.now.levels }
+    requires wanted { wanted_level what from < length p.now.levels }
+    ensures { (t : Task) (l : Level) (own : Span) → slice_get p.now.levels from ≡ Some l →
+        do_meet own result ≡ list_any (λ near. do_meet own (wanted_window p.now t store.Old what from l near)) (counted 0 (length l.patches)) }
+{
+    spans_meet_in_indexes();
+    let c = centring_of(p, wanted_name(what));
+    let l = level_at(p, from);
+    match what {
+        What::Same { layers, .. } => window(layers, c, index_space(l, Centring::Cell)),
+        What::Coarse { layers, .. } => window(layers, c, divided(box_line(l), ratio_of(p, from))),
+        What::Fine { .. } => refined(c, ratio_of(p, from + 1), box_line(l)),
+        What::Number { .. } => unreachable!(),
     }
 }
 

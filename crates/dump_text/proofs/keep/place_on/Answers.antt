@@ -11,7 +11,7 @@ pub returns-clause-field : goal.returns-clause-field
 returns-clause-field c =
     let kept = c.args.kept.now in
     let computed : computes (task_list kept.problem.now kept.step) kept.name c.args.material c.args.level ≡ true =
-    sym (rw (c.tasks_of-tasks.ensures, c.from.ensures, c.from-2.ensures) at c.if-not-computes.ensures) in
+    sym (rw (c.task_list-tasks.ensures, c.from.ensures, c.from-2.ensures) at c.if-not-computes.ensures) in
     field_there kept c.args.material c.args.level c.level_at.result.now c.centring_of-centring.result c.index_space-span.result computed
     c.level_at.ensures c.centring_of-centring.ensures c.index_space-span.ensures
 

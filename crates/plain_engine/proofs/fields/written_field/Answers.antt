@@ -12,7 +12,7 @@ returns c =
     let moment = c.args.moment.now in
     let p = moment.checked.now in
     let write = c.args.write.now in
-    let centring = c.centring_named-centring.ensures ∙ ap (λ (q : Problem). centring_of q write.name) c.problem.ensures.problem in
+    let centring = c.centring_of-centring.ensures ∙ ap (λ (q : Problem). centring_of q write.name) c.problem.ensures.problem in
     let spaces = ap (spaces_of p c.args.level) (sym centring) ∙ c.space_on-span.ensures.only in
     let numbers = c.in_ok-numbers.ensures
     ∙ ap (map (kernel_at moment write.expr c.args.level c.args.material)) (indexes_on_one p c.args.level (centring_of p write.name) c.space_on-span.result spaces) in

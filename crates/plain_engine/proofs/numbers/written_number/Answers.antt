@@ -16,7 +16,7 @@ returns c =
     let task = c.args.task.now in
     let write = c.args.write.now in
     let fits : FitsSigned w64 c.fold_levels.result = search rules in
-    let how = c.fold_named.ensures ∙ ap (λ (p : Problem). fold_of p write.name) c.problem.ensures.problem in
+    let how = c.fold_of.ensures ∙ ap (λ (p : Problem). fold_of p write.name) c.problem.ensures.problem in
     let number = to_z-of_z w64 _ fits ∙ c.fold_levels.ensures
     ∙ ap (λ (f : Fold). all_combined f (flat_map (level_numbers moment task write.expr c.reduced_centring.result) task.levels)) how
     ∙ ap (λ (k : Centring). all_combined (fold_of moment.checked.now write.name) (flat_map (level_numbers moment task write.expr k) task.levels)) c.reduced_centring.ensures in

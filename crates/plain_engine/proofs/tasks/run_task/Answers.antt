@@ -13,14 +13,14 @@ put_fields-requires-clause-fields c =
     let step = c.args.step.now in
     let p = step.checked.now in
     All-same (IsFieldOf p) c.in_ok-fields.field-0.fields _ c.in_ok-fields.ensures.fields
-    (fields_belong p step.number (state_of p step.old.now) (state_of p c.args.new.now) c.args.task.now c.requires.task)
+    (fields_belong p step.places step.number (state_of p step.old.now) (state_of p c.args.new.now) c.args.task.now c.requires.task)
 
 pub put_numbers-requires-clause-numbers : goal.put_numbers-requires-clause-numbers
 put_numbers-requires-clause-numbers c =
     let step = c.args.step.now in
     let p = step.checked.now in
     All-same (λ (x : WrittenNumber). x.name < length p.names) c.in_ok-fields.field-0.numbers _ c.in_ok-fields.ensures.numbers
-    (numbers_known p step.number (state_of p step.old.now) (state_of p c.args.new.now) c.args.task.now c.requires.task)
+    (numbers_known p step.places step.number (state_of p step.old.now) (state_of p c.args.new.now) c.args.task.now c.requires.task)
 
 pub returns-clause-state : goal.returns-clause-state
 returns-clause-state c =

@@ -7,7 +7,7 @@ use Rattle.plain_engine.proofs.tasks.run_tasks.Goals as goal
 
 pub run_task-requires-clause-task : goal.run_task-requires-clause-task
 run_task-requires-clause-task c =
-    subst (IsRunnable c.args.step.now.checked.now) (sym c.task-item.is) (c.requires c.loop-task.task-index c.task-item.result (omega arith))
+    subst (IsRunnable c.args.step.now.checked.now c.args.step.now.places) (sym c.task-item.is) (c.requires.tasks c.loop-task.task-index c.task-item.result (omega arith))
 
 pub run_task-requires-clause-blank : goal.run_task-requires-clause-blank
 run_task-requires-clause-blank c =

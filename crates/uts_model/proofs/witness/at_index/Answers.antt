@@ -9,7 +9,7 @@ use Rattle.uts_model.proofs.Accepted.{evaluable}
 use Rattle.uts_model.proofs.witness.at_index.Goals as goal
 
 pub field-requires-clause-evaluable : goal.field-requires-clause-evaluable
-field-requires-clause-evaluable c = rw c.problem-problem.ensures.problem (evaluable c.args.c.now c.bounds.ensures.form c.bounds.ensures.bounded)
+field-requires-clause-evaluable c = rw c.problem-problem.ensures.problem (evaluable c.args.c.now c.bounds.ensures.form c.bounds.ensures.limits)
 
 pub returns : goal.returns
 unfolding state_of

@@ -2,12 +2,12 @@ use Rattle.std.proofs.Common.{◌*◌, map}
 use Rattle.std.specs.List.{flat_map}
 use Rattle.uts_geom.specs.Spans.{counted}
 use Rattle.problem_types.specs.Lists.{task_list}
-use Rattle.task_check.specs.Plan.{Old}
+use Rattle.task_check.specs.Plan.{Old, patches_of}
 use Rattle.task_check.specs.Tallies.{HasAtMost, IsTally}
 use Rattle.task_check.proofs.plan.old_slots.of_level.Given as goal
 
-abbrev pub invariant-loop-patch : goal.invariant-loop-patch
-invariant-loop-patch l = record {
-  tally : IsTally l.p (task_list l.p l.list) (flat_map (λ patch. map (λ material. Old l.name l.level material patch) (counted 0 l.p.materials.value)) (counted 0 l.patch)) l.tally;
-  few : HasAtMost (8 * l.patch) l.tally;
+abbrev pub invariant-loop-material : goal.invariant-loop-material
+invariant-loop-material l = record {
+  tally : IsTally l.p (task_list l.p l.list) (flat_map (λ material. map (Old l.name l.level material) (patches_of l.p l.level)) (counted 0 l.material)) l.tally;
+  few : HasAtMost (1024 * l.material) l.tally;
 }

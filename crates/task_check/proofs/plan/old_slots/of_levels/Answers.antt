@@ -21,11 +21,11 @@ loop-level-preserved c = record {
       (λ level. flat_map (λ material. map (Old c.args.name level material) (patches_of c.args.p.now level)) (counted 0 c.args.p.now.materials.value))
       c.loop-level.level c.loop-level.tally c.of_level.result c.both-tally.result c.loop-level.invariant.tally c.of_level.ensures.tally
       c.both-tally.ensures.slots c.both-tally.ensures.numbers;
-  few = at_most_more (8 * 1024) c.loop-level.level c.loop-level.tally c.of_level.result c.both-tally.result c.loop-level.invariant.few c.of_level.ensures.few
+  few = at_most_more (1024 * 8) c.loop-level.level c.loop-level.tally c.of_level.result c.both-tally.result c.loop-level.invariant.few c.of_level.ensures.few
       c.both-tally.ensures.slots c.both-tally.ensures.numbers;
 }
 
 pub returns-clause-few : goal.returns-clause-few
 returns-clause-few c =
-    at_most (8 * 1024 * c.loop-level.level) (8 * 1024 * 4) c.loop-level.tally (omega (arith, c.loop-level.auto, few_levels c.args.p.now c.requires.faultless))
+    at_most (1024 * 8 * c.loop-level.level) (1024 * 8 * 4) c.loop-level.tally (omega (arith, c.loop-level.auto, few_levels c.args.p.now c.requires.faultless))
     c.loop-level.invariant.few

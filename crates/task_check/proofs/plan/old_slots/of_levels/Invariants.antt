@@ -9,5 +9,5 @@ use Rattle.task_check.proofs.plan.old_slots.of_levels.Given as goal
 abbrev pub invariant-loop-level : goal.invariant-loop-level
 invariant-loop-level l = record {
   tally : IsTally l.p (task_list l.p l.list) (flat_map (λ level. flat_map (λ material. map (Old l.name level material) (patches_of l.p level)) (counted 0 l.p.materials.value)) (counted 0 l.level)) l.tally;
-  few : HasAtMost (8 * 1024 * l.level) l.tally;
+  few : HasAtMost (1024 * 8 * l.level) l.tally;
 }

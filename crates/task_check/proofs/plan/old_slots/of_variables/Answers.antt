@@ -25,12 +25,12 @@ loop-v-preserved c = record {
       (counted 0 (length c.args.p.now.levels)))
       c.args.p.now.vars c.as_slice-v-items.result.now c.loop-v.v-index _ c.loop-v.tally c.of_variable.result c.both-tally.result c.as_slice-v-items.ensures c.loop-v-test.true
       c.loop-v.invariant.tally c.of_variable.ensures.tally c.both-tally.ensures.slots c.both-tally.ensures.numbers;
-  few = at_most_more (8 * 1024 * 4) c.loop-v.v-index c.loop-v.tally c.of_variable.result c.both-tally.result c.loop-v.invariant.few c.of_variable.ensures.few
+  few = at_most_more (1024 * 8 * 4) c.loop-v.v-index c.loop-v.tally c.of_variable.result c.both-tally.result c.loop-v.invariant.few c.of_variable.ensures.few
       c.both-tally.ensures.slots c.both-tally.ensures.numbers;
 }
 
 pub returns-clause-few : goal.returns-clause-few
 returns-clause-few c =
     let within : c.loop-v.v-index ≤ length c.args.p.now.vars = rw c.as_slice-v-items.ensures at c.loop-v.auto.v-index-end in
-    at_most (8 * 1024 * 4 * c.loop-v.v-index) (8 * 1024 * 4 * 64) c.loop-v.tally (omega (arith, within, few_variables c.args.p.now c.requires.faultless))
+    at_most (1024 * 8 * 4 * c.loop-v.v-index) (1024 * 8 * 4 * 64) c.loop-v.tally (omega (arith, within, few_variables c.args.p.now c.requires.faultless))
     c.loop-v.invariant.few

@@ -2,8 +2,8 @@ use Rattle.std.proofs.Common.{◌≡◌, ◌∙◌, ◌+ℤ◌, ℕ, pos, length
 use Rattle.std.proofs.lemmas.Int.{to_z-of_z}
 use Rattle.std.proofs.lemmas.List.{length-map, take_at}
 use Rattle.uts_geom.specs.Spans.{counted, width_of}
+use Rattle.uts_geom.specs.Counting.{length-counted}
 use Rattle.whole_fields.specs.Views.{number_in, number_along}
-use Rattle.whole_fields.proofs.Lists.{length-counted}
 use Rattle.whole_fields.proofs.RowViews.{along_row}
 use Rattle.whole_fields.proofs.views.FieldView.copy_row.Goals as goal
 

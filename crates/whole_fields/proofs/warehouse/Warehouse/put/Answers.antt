@@ -2,7 +2,7 @@ use Rattle.std.proofs.Common.{◌≡◌, ◌∙◌, ◌<◌, ℕ, Some, length, 
 use Rattle.std.specs.Prelude.{slice_set}
 use Rattle.problem_types.specs.Lists.{centring_of}
 use Rattle.whole_fields.specs.Stored.{field_place}
-use Rattle.whole_fields.proofs.Spaces.{some_space, space_has, space_has_once}
+use Rattle.whole_fields.proofs.LevelSpaces.{some_space, space_has, space_has_once}
 use Rattle.whole_fields.proofs.States.{warehouse_after, state_after}
 use Rattle.whole_fields.proofs.warehouse.Warehouse.put.Goals as goal
 

@@ -1,0 +1,11 @@
+use Rattle.std.proofs.Common.{◌≤◌, take}
+use Rattle.std.specs.Prelude.{All}
+use Rattle.plain_engine.specs.Runnable.{AreAtMostDeep}
+use Rattle.plain_engine.proofs.places.deepest_kernel.Given as goal
+
+-- no kernel so far is deeper
+abbrev pub invariant-loop-task : goal.invariant-loop-task
+invariant-loop-task l = record {
+  deep : All (AreAtMostDeep l.deepest) (take l.task-index l.tasks);
+  shallow : l.deepest ≤ 64;
+}

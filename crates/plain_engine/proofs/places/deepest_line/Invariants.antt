@@ -1,0 +1,11 @@
+use Rattle.std.proofs.Common.{◌≤◌, take}
+use Rattle.std.specs.Prelude.{All}
+use Rattle.plain_engine.specs.Runnable.{IsAtMostDeep}
+use Rattle.plain_engine.proofs.places.deepest_line.Given as goal
+
+-- no kernel so far is deeper
+abbrev pub invariant-loop-write : goal.invariant-loop-write
+invariant-loop-write l = record {
+  deep : All (IsAtMostDeep l.deepest) (take l.write-index l.writes);
+  shallow : l.deepest ≤ 64;
+}

@@ -1,8 +1,0 @@
-use Rattle.std.proofs.Common.{◌≡◌, false, take}
-use Rattle.std.specs.List.{list_any}
-use Rattle.problem_types.specs.Lists.{task_list}
-use Rattle.task_check.specs.OldSlots.{reads_variable}
-use Rattle.task_check.proofs.plan.old_reads.is_variable_read.Given as goal
-
-abbrev pub invariant-loop-t : goal.invariant-loop-t
-invariant-loop-t l = list_any (reads_variable l.p l.name l.level l.material l.patch) (take l.t-index (task_list l.p l.list)) ≡ false
