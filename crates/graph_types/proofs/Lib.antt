@@ -1,0 +1,4 @@
+pub mod Counted
+pub mod Owning
+pub mod Walking
+pub mod Writing

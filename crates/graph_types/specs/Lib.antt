@@ -1,0 +1,5 @@
+pub mod Content
+pub mod Counting
+pub mod Facts
+pub mod Graph
+pub mod Parts

@@ -1,0 +1,19 @@
+//! Task graphs as plain numbers, and which of them are valid. `docs/task-graph.md` states the rules.
+#![tactic(auto)]
+
+mod graph;
+mod lists;
+mod memory;
+mod order;
+mod owners;
+mod slots;
+mod tables;
+#[cfg(test)]
+mod tests;
+mod validity;
+mod wants;
+
+pub use graph::Graph;
+pub use memory::NoMemory;
+pub use validity::valid;
+pub use wants::Wants;
