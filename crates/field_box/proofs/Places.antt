@@ -1,0 +1,142 @@
+-- Where the indexes of a span stand.
+use Rattle.std.proofs.Common.{◌≡◌, ◌≢◌, ◌∙◌, ◌≤◌, ◌<◌, ◌+◌, ◌-◌, inl, inr, ℕ, zero, suc, ℤ, pos, ◌+ℤ◌, List, [], ◌∷◌, ◌++◌, length, map, get_or, true, Option, Some, refl, ap, sym, arith}
+use Rattle.std.specs.Prelude.{◌&&◌, ◌↔◌, IsTrue, AllPairs, Contains, slice_get, slice_index_or, int_lt, position}
+use Rattle.std.specs.Bool.{Decides}
+use Rattle.std.specs.Int.{int_gap}
+use Rattle.std.specs.List.{flat_map, position_or_len}
+use Rattle.std.specs.Option.{option_map, option_map_or}
+use Rattle.std.specs.Ordering.{int_eq}
+use Rattle.std.proofs.lemmas.Bool.{cases_lt, lt-ltb, false_from_ne_true}
+use Rattle.std.proofs.lemmas.Bool.Decides.{Decides-int_eq, Decides-and, Decides-like}
+use Rattle.std.proofs.lemmas.Int.{ints}
+use Rattle.std.proofs.lemmas.List.{length-map}
+use Rattle.std.proofs.lemmas.List.Sums.{position_or_len_is}
+use Rattle.std.proofs.lemmas.Option.{same_Some, slice_get-map, slice_get_within, get_or_from_slice_get, slice_get-get_or}
+use Rattle.uts_geom.specs.declared.index.Index.{Index}
+use Rattle.uts_geom.specs.declared.span.Span.{Span}
+use Rattle.uts_geom.specs.Spans.{index, counted, from_to, is_inside, row_indexes, indexes_of, width_of}
+use Rattle.uts_geom.specs.Counting.{get_left, get_right, length-counted, get-counted}
+use Rattle.field_box.specs.Fields.{NumberedSpan, is_same_index, number_at}
+
+by_coordinates : (i j : Index) → i.x ≡ j.x → i.y ≡ j.y → i.z ≡ j.z → i ≡ j
+by_coordinates i j x y z = ap (λ n. index n i.y i.z) x ∙ ap (λ n. index j.x n i.z) y ∙ ap (λ n. index j.x j.y n) z
+
+pub same_index_decides : (i j : Index) → Decides (is_same_index i j) (i ≡ j)
+same_index_decides i j =
+    Decides-like (is_same_index i j) (λ h. by_coordinates i j h.0 h.1.0 h.1.1) (λ e. (ap (λ k. k.x) e, (ap (λ k. k.y) e, ap (λ k. k.z) e)))
+    (Decides-and (int_eq i.x j.x) (int_eq i.y j.y && int_eq i.z j.z) (Decides-int_eq i.x j.x)
+    (Decides-and (int_eq i.y j.y) (int_eq i.z j.z) (Decides-int_eq i.y j.y) (Decides-int_eq i.z j.z)))
+
+module _ (s : Span) (once : AllPairs ◌≢◌ (indexes_of s)) where
+  -- an index of a span stands at its place alone
+  pub position_of_index : (k : ℕ) (i : Index) → slice_get (indexes_of s) k ≡ Some i → position (λ j. is_same_index i j) (indexes_of s) ≡ Some k
+  position_of_index k i at =
+      let indexes = indexes_of s in
+      let within = slice_get_within indexes k i at in
+      let here : get_or indexes k i ≡ i = get_or_from_slice_get indexes k i i at in
+      let place : position_or_len (λ j. is_same_index i j) indexes ≡ k =
+      position_or_len_is (λ j. is_same_index i j) indexes k i (omega arith)
+      (λ j before. false_from_ne_true _ (λ same. once j k i before within (sym ((same_index_decides i (get_or indexes j i)).0 same) ∙ sym here)))
+      (λ _. (same_index_decides i (get_or indexes k i)).1 (sym here)) in
+      rw (place, lt-ltb k (length indexes) within) refl
+
+  pub number_at_place : (numbers : List ℤ) (k : ℕ) (i : Index) → slice_get (indexes_of s) k ≡ Some i →
+      number_at (record { span = s; numbers = numbers }) i ≡ slice_index_or numbers k (pos 0)
+  unfolding number_at
+  number_at_place numbers k i at =
+      ap (λ (place : Option ℕ). option_map_or (λ (j : ℕ). slice_index_or numbers j (pos 0)) place (pos 0)) (position_of_index k i at)
+
+  pub one_place : (j k : ℕ) (i : Index) → slice_get (indexes_of s) j ≡ Some i → slice_get (indexes_of s) k ≡ Some i → j ≡ k
+  one_place j k i here there = same_Some j k (sym (position_of_index j i here) ∙ position_of_index k i there)
+
+-- an index inside a span has a place
+pub place_inside : (s : Span) → ((i : Index) → Contains (indexes_of s) i ↔ IsTrue (is_inside s i)) → (i : Index) → IsTrue (is_inside s i) →
+    (k : ℕ) × (slice_get (indexes_of s) k ≡ Some i)
+place_inside s holds i inside =
+    let there = (holds i).1 inside in
+    (there.0, slice_get-get_or (indexes_of s) there.0 i there.1 ∙ ap (λ (j : Index). Some j) there.2)
+
+pub length-from_to : (low high : ℤ) → length (from_to low high) ≡ int_gap low high
+length-from_to low high = length-map (counted 0 (int_gap low high)) (λ k. low +ℤ pos k) ∙ length-counted 0 (int_gap low high)
+
+pub get-from_to : (low high : ℤ) (k : ℕ) → k < int_gap low high → slice_get (from_to low high) k ≡ Some (low +ℤ pos k)
+get-from_to low high k below =
+    slice_get-map (λ (j : ℕ). low +ℤ pos j) (counted 0 (int_gap low high)) k
+    ∙ ap (option_map (λ (j : ℕ). low +ℤ pos j)) (get-counted 0 (int_gap low high) k below)
+    ∙ ap (λ (j : ℕ). Some (low +ℤ pos j)) (let e : 0 + k ≡ k = omega arith in e)
+
+pub length-row : (s : Span) (y z : ℤ) → length (row_indexes s y z) ≡ width_of s
+length-row s y z = length-map (from_to s.lo.x s.hi.x) (λ x. index x y z) ∙ length-from_to s.lo.x s.hi.x
+
+get-row : (s : Span) (y z : ℤ) (k : ℕ) → k < width_of s → slice_get (row_indexes s y z) k ≡ Some (index (s.lo.x +ℤ pos k) y z)
+get-row s y z k below =
+    slice_get-map (λ (x : ℤ). index x y z) (from_to s.lo.x s.hi.x) k ∙ ap (option_map (λ (x : ℤ). index x y z)) (get-from_to s.lo.x s.hi.x k below)
+
+below_width : (low high x : ℤ) (k : ℕ) → low +ℤ pos k ≡ x → int_lt (x +ℤ pos 1) high ≡ true → k + 1 < int_gap low high
+below_width low high x k at below = grind (arith, ints)
+
+one_on : (low x : ℤ) (k : ℕ) → low +ℤ pos k ≡ x → low +ℤ pos (k + 1) ≡ x +ℤ pos 1
+one_on low x k at = grind (arith, ints)
+
+module _ (s : Span) where
+  -- behind an index stands the next one of its row
+  abbrev HasNext : List Index → Type 0
+  HasNext indexes = (k : ℕ) (i : Index) → slice_get indexes k ≡ Some i → int_lt (i.x +ℤ pos 1) s.hi.x ≡ true →
+      slice_get indexes (k + 1) ≡ Some (index (i.x +ℤ pos 1) i.y i.z)
+
+  next_of_none : HasNext []
+  next_of_none k i at below = absurd cc
+
+  next_in_row : (y z : ℤ) → HasNext (row_indexes s y z)
+  next_in_row y z k i at below =
+      let row = row_indexes s y z in
+      let within : k < width_of s = omega (arith, slice_get_within row k i at, length-row s y z) in
+      let same : index (s.lo.x +ℤ pos k) y z ≡ i = same_Some _ _ (sym (get-row s y z k within) ∙ at) in
+      let here : s.lo.x +ℤ pos k ≡ i.x = ap (λ (j : Index). j.x) same in
+      get-row s y z (k + 1) (below_width s.lo.x s.hi.x i.x k here below)
+      ∙ ap (λ (x : ℤ). Some (index x y z)) (one_on s.lo.x i.x k here)
+      ∙ ap (λ (j : Index). Some (index (i.x +ℤ pos 1) j.y j.z)) same
+
+  next_in_both : (front back : List Index) → HasNext front → HasNext back → HasNext (front ++ back)
+  next_in_both front back in_front in_back k i at below =
+      elim (cases_lt k (length front)) [
+        | inl early ↦
+            let next = in_front k i (sym (get_left front back k early) ∙ at) below in
+            get_left front back (k + 1) (slice_get_within front (k + 1) _ next) ∙ next
+        | inr late ↦
+            let j = k - length front in
+            let next = in_back j i (sym (get_right front back k j (omega arith)) ∙ at) below in
+            get_right front back (k + 1) (j + 1) (omega arith) ∙ next
+      ]
+
+  next_in_all : {A : Type 0} (f : A → List Index) → ((a : A) → HasNext (f a)) → (items : List A) → HasNext (flat_map f items)
+  next_in_all f each [] = next_of_none
+  next_in_all f each (a ∷ items) = next_in_both (f a) (flat_map f items) (each a) (next_in_all f each items)
+
+  next_index : HasNext (indexes_of s)
+  next_index =
+      next_in_all (λ (z : ℤ). flat_map (λ (y : ℤ). row_indexes s y z) (from_to s.lo.y s.hi.y))
+      (λ z. next_in_all (λ (y : ℤ). row_indexes s y z) (λ y. next_in_row y z) (from_to s.lo.y s.hi.y)) (from_to s.lo.z s.hi.z)
+
+  begins_there : (x : ℤ) → x ≡ x +ℤ pos 0
+  begins_there x = grind (arith, ints)
+
+  less_far : (x high : ℤ) (k : ℕ) → int_lt (x +ℤ pos (suc k)) high ≡ true → int_lt (x +ℤ pos k) high ≡ true
+  less_far x high k below = grind (arith, ints)
+
+  more_far : (x high : ℤ) (k : ℕ) → int_lt (x +ℤ pos (suc k)) high ≡ true → int_lt ((x +ℤ pos k) +ℤ pos 1) high ≡ true
+  more_far x high k below = grind (arith, ints)
+
+  then_one : (x : ℤ) (k : ℕ) → (x +ℤ pos k) +ℤ pos 1 ≡ x +ℤ pos (suc k)
+  then_one x k = grind (arith, ints)
+
+  -- the indexes of a row stand one after another
+  pub places_along : (begin : ℕ) (first : Index) → slice_get (indexes_of s) begin ≡ Some first → (k : ℕ) → int_lt (first.x +ℤ pos k) s.hi.x ≡ true →
+      slice_get (indexes_of s) (begin + k) ≡ Some (index (first.x +ℤ pos k) first.y first.z)
+  places_along begin first at zero below =
+      ap (slice_get (indexes_of s)) (let e : begin + zero ≡ begin = omega arith in e) ∙ at
+      ∙ ap (λ (x : ℤ). Some (index x first.y first.z)) (begins_there first.x)
+  places_along begin first at (suc k) below =
+      ap (slice_get (indexes_of s)) (let e : begin + suc k ≡ begin + k + 1 = omega arith in e)
+      ∙ next_index (begin + k) (index (first.x +ℤ pos k) first.y first.z) (places_along begin first at k (less_far first.x s.hi.x k below)) (more_far first.x s.hi.x k below)
+      ∙ ap (λ (x : ℤ). Some (index x first.y first.z)) (then_one first.x k)
