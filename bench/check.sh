@@ -83,6 +83,30 @@ different() {
     }'
 }
 
+# Two levels of 1,024 patches, of which the finer one lies in a corner: 60 tasks there require each of 30 variables of the coarser level as
+# it stands at the end of the step before, on patches most of which no window reaches.
+corner() {
+    awk 'BEGIN {
+        print "problem 1\nsteps 0\ndump 1\nghost 8\nmaterials 1\nlevel ratio 1\nbox 0 0 0 64 64 64"
+        for (z = 0; z < 64; z++) for (x = 0; x < 64; x += 4) print "patch", x, 0, z, x + 4, 64, z + 1
+        print "level ratio 2\nbox 0 0 0 32 32 8"
+        for (z = 0; z < 8; z += 2) for (y = 0; y < 32; y += 2) for (x = 0; x < 32; x += 2) print "patch", x, y, z, x + 2, y + 2, z + 2
+        for (v = 0; v < 30; v++) print "var v" v " cell outside 0"
+        print "var w cell outside 0"
+        for (list = 0; list < 2; list++) {
+            print (list ? "timestep" : "init") "\ntask c levels 0 materials 0"
+            for (v = 0; v < 30; v++) print "computes v" v " = 0"
+            print "task d levels 1 materials 0\ncomputes w = 0"
+            for (t = 0; list && t < 60; t++) {
+                print "task t" t " levels 1 materials 0"
+                for (v = 0; v < 30; v++) print "requires old coarse v" v " none"
+                print "modifies w = old.coarse.v0[0,0,0]"
+            }
+        }
+        print "end"
+    }'
+}
+
 # A text of about a million bytes: one task that requires the same 50,000 times.
 repeated() {
     printf '%s\n' "problem 1" "steps 0" "dump 1" "ghost 8" "materials 1" "level ratio 1" "box 0 0 0 1 1 1" "patch 0 0 0 1 1 1" \
@@ -107,4 +131,5 @@ windows 2 >"$room/text" && measure "the same, two variables"
 many 14 33 none >"$room/text" && measure "3,696 windows without layers"
 many 8 30 "cells 1" >"$room/text" && measure "1,920 windows of one layer"
 different >"$room/text" && measure "1,056 windows of 135 kinds"
+corner >"$room/text" && measure "1,800 old windows in a corner"
 repeated >"$room/text" && measure "50,000 equal requirements"
