@@ -36,3 +36,6 @@ pub mod SoundSums
 pub mod SoundRoom
 pub mod SoundPlace
 pub mod SoundSteps
+pub mod EndsCounts
+pub mod EndsDone
+pub mod EndsKept

@@ -4,3 +4,4 @@ pub mod Start
 pub mod Step
 pub mod Sound
 pub mod Laws
+pub mod Ends

@@ -3,6 +3,7 @@
 #![tactic(auto)]
 
 mod act;
+mod ends;
 mod event;
 mod following;
 mod laws;
@@ -14,6 +15,7 @@ mod tickets;
 mod view;
 
 pub use act::{Act, act_at};
+pub use ends::{all_gone_is_done, done_leaves_the_kept, drawn_is_done};
 pub use event::{Event, Kind};
 pub use laws::{each_kind_keeps_sound, reached_are_sound, steps_keep_sound};
 pub use start::NoMemory;
