@@ -178,7 +178,7 @@ module _ (p : Problem) (faultless : IsFaultless p) (list place : ℕ) (t : Task)
       known_unless q (what.Fine var) not_not = not_not_true _ not_not
       known_unless q (what.Number name) not_not = not_not_true _ not_not
 
-  none_missing : WantsMissingLevel (length p.levels) t.levels r.what → ⊥
+  pub none_missing : WantsMissingLevel (length p.levels) t.levels r.what → ⊥
   none_missing missing = faultless r.line kind.MissingLevel (of_require list place t at_line r kind.MissingLevel there missing)
 
   -- the level that it wants is there

@@ -1,25 +1,29 @@
 -- An accepted problem keeps the limits, and has what its lines name.
 use Rattle.std.proofs.Common.{◌≡◌, ◌<◌, ◌⊎◌, inl, inr, ℕ, List, Some, arith}
-use Rattle.std.specs.Prelude.{All, slice_get}
+use Rattle.std.specs.Prelude.{All, slice_get, length}
+use Rattle.std.proofs.lemmas.List.Elements.{All-contains}
 use Rattle.std.proofs.lemmas.Option.{slice_get-get_or}
 use Rattle.problem_types.specs.Form.{IsProblemInForm}
 use Rattle.problem_types.specs.Lists.{task_list}
 use Rattle.problem_types.specs.declared.problem.Problem.{Problem}
 use Rattle.problem_types.specs.declared.problem.Level.{Level}
 use Rattle.problem_types.specs.declared.problem.Task.{Task}
+use Rattle.problem_types.specs.declared.problem.Require.{Require}
 use Rattle.task_rules.specs.Names.{IsVariable, IsReduction, AreNamesKnown}
 use Rattle.task_check.specs.declared.fault.FaultKind.TheVariants as kind
 use Rattle.task_check.specs.declared.fault.Which.TheVariants as limit
-use Rattle.task_check.specs.Bounds.{IsBoundedLevel, IsBoundedTask, AreBoundedTasks, IsBounded}
+use Rattle.task_check.specs.Bounds.{IsBoundedLevel, IsBoundedRequire, IsBoundedTask, AreBoundedTasks, IsBounded}
 use Rattle.task_check.specs.Faults.{of_steps, of_dump, of_level, of_write, of_keep}
 use Rattle.task_check.specs.First.{IsFaultless}
 use Rattle.task_check.specs.Laws.{AcceptedProblemsAreBounded}
 use Rattle.task_check.specs.Lines.{cell_count}
-use Rattle.task_check.specs.Places.{IsTaskAt}
-use Rattle.task_check.proofs.Accepted.{not_above, few_ghost_layers, few_materials, few_levels, few_variables, few_reductions, few_tasks, keeps_grid_limits, levels_below, materials_below}
+use Rattle.task_check.specs.Places.{IsTaskAt, IsRequireAt}
+use Rattle.task_check.specs.Supplies.{IsAllSupplied}
+use Rattle.task_check.proofs.Accepted.{not_above, few_ghost_layers, few_materials, few_levels, few_variables, few_reductions, few_tasks, few_lines, few_layers, is_known, none_missing, wanted_below, keeps_grid_limits, levels_below, materials_below}
 use Rattle.task_check.proofs.Goodness.{is_good}
 use Rattle.task_check.proofs.Judging.{Judged, either}
 use Rattle.task_check.proofs.JudgedNames.{names_known, variable, reduction}
+use Rattle.task_check.proofs.JudgedSupplies.{all_supplied}
 
 -- what is judged, and does not fail, holds
 not_not : (P : Type 0) → Judged P → ((P → ⊥) → ⊥) → P
@@ -38,12 +42,27 @@ module _ (p : Problem) (form : IsProblemInForm p) (faultless : IsFaultless p) wh
         (λ above. faultless l.line (kind.TooLarge limit.Cells) (of_level level l (kind.TooLarge limit.Cells) at above));
   }
 
+  require_is_bounded : (list place : ℕ) (t : Task) → IsTaskAt p list place t → (at_line : ℕ) (r : Require) → IsRequireAt p list place t at_line r
+      → IsBoundedRequire p t r
+  require_is_bounded list place t task at_line r there = record {
+    few = few_layers p faultless list place t at_line r there;
+    known = is_known p faultless list place t at_line r there;
+    none_missing = none_missing p faultless list place t at_line r there;
+    wanted = λ level runs. wanted_below p faultless list place t at_line r there level runs
+        (All-contains (λ l. l < length p.levels) t.levels level (levels_below p form faultless list place t task) runs);
+  }
+
   task_is_bounded : (list place : ℕ) (t : Task) → IsTaskAt p list place t → IsBoundedTask p t
   task_is_bounded list place t there = record {
     levels = levels_below p form faultless list place t there;
     materials = materials_below p form faultless list place t there;
     names = by_places (AreNamesKnown p) t.writes (λ at_line w at. not_not (AreNamesKnown p w) (names_known p w)
         (λ unknown. faultless w.line kind.Unknown (of_write list place t at_line w kind.Unknown (record { task = there; stands = at }) unknown)));
+    few_lines = few_lines p form faultless list place t there;
+    requirements = by_places (IsBoundedRequire p t) t.requirements
+        (λ at_line r at. require_is_bounded list place t there at_line r (record { task = there; stands = at }));
+    supplied = by_places (IsAllSupplied p t) t.writes (λ at_line w at. not_not (IsAllSupplied p t w) (all_supplied p t w)
+        (λ beyond. faultless w.line kind.ReadBeyondGhost (of_write list place t at_line w kind.ReadBeyondGhost (record { task = there; stands = at }) beyond)));
   }
 
   tasks_are_bounded : (list : ℕ) → list < 2 → AreBoundedTasks p (task_list p list)

@@ -1,12 +1,15 @@
 -- How large an accepted problem is at most, and that it has what its lines name.
-use Rattle.std.specs.Prelude.{◌≡◌, ◌⊎◌, ℕ, ◌<◌, ◌≤◌, slice_get, Some, length, All, List}
+use Rattle.std.specs.Prelude.{◌≡◌, ◌⊎◌, ℕ, ◌+◌, ◌<◌, ◌≤◌, slice_get, Some, length, All, Contains, List}
 use Rattle.problem_types.specs.Levels.{KeepsGridLimits}
 use Rattle.problem_types.specs.declared.problem.Problem.{Problem}
 use Rattle.problem_types.specs.declared.problem.Level.{Level}
 use Rattle.problem_types.specs.declared.problem.Task.{Task}
+use Rattle.problem_types.specs.declared.problem.Require.{Require}
 use Rattle.grid_levels.specs.Good.{IsGood}
-use Rattle.task_rules.specs.Names.{IsVariable, IsReduction, AreNamesKnown}
+use Rattle.task_rules.specs.Lines.{wanted_level}
+use Rattle.task_rules.specs.Names.{IsVariable, IsReduction, IsKnown, AreNamesKnown, WantsMissingLevel}
 use Rattle.task_check.specs.Lines.{cell_count}
+use Rattle.task_check.specs.Supplies.{IsAllSupplied, layers_of}
 
 -- the level `l` of this number is good and within the limits of the grid
 pub record IsBoundedLevel (p : Problem) (level : ℕ) (l : Level) : Type 0 where
@@ -14,11 +17,22 @@ pub record IsBoundedLevel (p : Problem) (level : ℕ) (l : Level) : Type 0 where
   pub good : IsGood p level l
   pub cells : cell_count l ≤ 262144
 
--- the task runs on levels and materials that the problem has, and each name of a line that it writes is declared
+-- what a task requires asks for few layers, is declared, and is on a level that the problem has, from each level of the task
+pub record IsBoundedRequire (p : Problem) (t : Task) (r : Require) : Type 0 where
+  pub few : layers_of r.what ≤ 8
+  pub known : IsKnown p r.what
+  pub none_missing : WantsMissingLevel (length p.levels) t.levels r.what → ⊥
+  pub wanted : (level : ℕ) → Contains t.levels level → wanted_level r.what level < length p.levels
+
+-- The task runs on levels and materials that the problem has, its lines are few, each name of a line that it writes is declared, and it
+-- requires all that the kernels of these lines read.
 pub record IsBoundedTask (p : Problem) (t : Task) : Type 0 where
   pub levels : All (λ level. level < length p.levels) t.levels
   pub materials : All (λ material. material < p.materials.value) t.materials
   pub names : All (AreNamesKnown p) t.writes
+  pub few_lines : length t.requirements + length t.writes ≤ 64
+  pub requirements : All (IsBoundedRequire p t) t.requirements
+  pub supplied : All (IsAllSupplied p t) t.writes
 
 -- the tasks of a list are few, and each is such a task
 pub record AreBoundedTasks (p : Problem) (all : List Task) : Type 0 where

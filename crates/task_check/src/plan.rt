@@ -1,14 +1,14 @@
 //! How large the plan of a list of tasks is.
 mod columns;
-mod details;
+pub(crate) mod details;
 mod gathered;
 mod kept;
 pub(crate) mod limits;
-mod old_reads;
+pub(crate) mod old_reads;
 mod old_slots;
-mod reach;
-mod reads;
+pub(crate) mod reach;
+pub(crate) mod reads;
 mod slots;
 mod tally;
-mod touches;
-mod windows;
+pub(crate) mod touches;
+pub(crate) mod windows;

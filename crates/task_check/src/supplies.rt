@@ -1,41 +1,20 @@
 //! Whether a task requires what the kernels of its lines read.
-ghost use Rattle.std.specs.Prelude.{ℕ, ◌≡◌, ◌≤◌, ◌↔◌, IsTrue, All, Any, ◌==◌, find};
-ghost use Rattle.std.specs.Option.{option_map_or};
-ghost use Rattle.uts_geom.specs.declared.centring.Centring.TheVariants.{Cell};
+ghost use Rattle.std.specs.Prelude.{ℕ, ◌≡◌, ◌≤◌, ◌↔◌, IsTrue, All, Any};
 ghost use Rattle.kernel_ast.specs.declared.expression.Store.{Store};
 ghost use Rattle.kernel_ast.specs.declared.expression.Read.{Read};
-ghost use Rattle.problem_types.specs.Lists.{centring_of};
 ghost use Rattle.problem_types.specs.declared.problem.What.TheVariants as what;
 ghost use Rattle.ghost_rules.specs.Windows.{AreFewSeen};
 ghost use Rattle.task_check.specs.Supplies.{seen_of, kernel_centring, layers_of, SuppliesFew, IsNumberSupplied, IsAllSupplied};
 
 use ghost_rules::{Seen, offset_allowed};
-use kernel_ast::{Expr, How, Read, Store};
-use problem_types::{Ghost, GhostKind, Problem, Require, Task, Var, What, Write, WriteKind};
+use kernel_ast::{How, Read, Store};
+use problem_lookup::centring_of;
+use problem_types::{Ghost, GhostKind, Problem, Require, Task, What, Write, WriteKind};
 use task_rules::{ReadRule, allows_all, has_modifies};
 use uts_geom::Centring;
 
-/// The centring of the first of the variables that has the name; cells where none has it.
-fn centring_among(vars: &[Var], name: u32) -> Centring
-    ensures { result ≡ option_map_or (λ v. v.centring) (find (λ v. v.name == name) vars.now) Cell }
-{
-    for v in vars {
-        if v.name == name {
-            return v.centring;
-        }
-    }
-    Centring::Cell
-}
-
-/// The centring of a variable; cells where none is declared.
-pub(crate) fn centring_of(p: &Problem, name: u32) -> Centring
-    ensures { result ≡ centring_of p.now name }
-{
-    centring_among(p.vars.as_slice(), name)
-}
-
 /// What a task sees of a variable that it requires on its own level.
-pub(crate) fn seen_of(t: &Task, name: u32, store: Store, layers: Ghost) -> Seen
+pub fn seen_of(t: &Task, name: u32, store: Store, layers: Ghost) -> Seen
     ensures { result ≡ seen_of t.now name store layers }
 {
     let without_ghosts = store == Store::New && layers.kind == GhostKind::None;
@@ -47,7 +26,7 @@ pub(crate) fn seen_of(t: &Task, name: u32, store: Store, layers: Ghost) -> Seen
 }
 
 /// Where the kernel of a line runs.
-pub(crate) fn kernel_centring(p: &Problem, w: &Write) -> Centring
+pub fn kernel_centring(p: &Problem, w: &Write) -> Centring
     ensures { result ≡ kernel_centring p.now w.now }
 {
     match w.kind {

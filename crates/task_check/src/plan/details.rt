@@ -39,7 +39,7 @@ fn patches_on(p: &Problem, levels: &[u64]) -> usize
 }
 
 /// How many of the lines reduce.
-pub(crate) fn reduces_count(writes: &[Write]) -> usize
+pub fn reduces_count(writes: &[Write]) -> usize
     ensures count { result ≡ reduces_count writes.now }
     ensures within { result ≤ length writes.now }
 {
@@ -50,7 +50,7 @@ pub(crate) fn reduces_count(writes: &[Write]) -> usize
 }
 
 /// How many detailed tasks the task has on patches.
-pub(crate) fn part_count(p: &Problem, t: &Task) -> usize
+pub fn part_count(p: &Problem, t: &Task) -> usize
     requires form { IsProblemInForm p.now }
     requires faultless { IsFaultless p.now }
     requires task { IsTask p.now t.now }

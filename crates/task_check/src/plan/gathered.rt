@@ -15,8 +15,8 @@ ghost use Rattle.task_check.specs.Sizes.{IsTask, gathered_on, gathers_above, is_
 use crate::plan::details::{part_count, patch_count, reduces_count};
 use crate::plan::windows::{level_at, wanted_level, wanted_window};
 use crate::slices::tasks;
-use crate::supplies::centring_of;
 use patch_regions::index_space;
+use problem_lookup::centring_of;
 use problem_types::{Centring, Level, Problem, Require, Task, What};
 use task_rules::wanted_name;
 use uts_geom::{Span, contains, meet, volume};

@@ -17,8 +17,8 @@ ghost use Rattle.task_check.specs.Sizes.{IsTask};
 use crate::plan::touches::patch_count;
 use crate::plan::windows::{box_window, level_at, wanted_level};
 use crate::slices::tasks;
-use crate::supplies::centring_of;
 use patch_regions::{do_meet, owned};
+use problem_lookup::centring_of;
 use problem_types::{Centring, Level, Problem, Require, Store, Task, What};
 use task_rules::wanted_name;
 use uts_geom::Span;
@@ -142,7 +142,7 @@ fn requires_old(t: &Task, name: u32) -> bool
 }
 
 /// Whether a task of the list requires the variable as it stands at the end of the step before.
-pub(crate) fn is_required(p: &Problem, list: usize, name: u32) -> bool
+pub fn is_required(p: &Problem, list: usize, name: u32) -> bool
     ensures { result ≡ list_any (requires_old name) (task_list p.now list) }
 {
     for t in tasks(p, list) {
@@ -154,13 +154,7 @@ pub(crate) fn is_required(p: &Problem, list: usize, name: u32) -> bool
 }
 
 /// The patches of a level on which a task of the list reads the variable at the end of the step before, for the material.
-pub(crate) fn read_patches(
-    p: &Problem,
-    list: usize,
-    name: u32,
-    level: u64,
-    material: u64,
-) -> [bool; 1024]
+pub fn read_patches(p: &Problem, list: usize, name: u32, level: u64, material: u64) -> [bool; 1024]
     requires form { IsProblemInForm p.now }
     requires faultless { IsFaultless p.now }
     requires list { list < 2 }
@@ -175,7 +169,7 @@ pub(crate) fn read_patches(
 }
 
 /// Whether a task of the list reads the reduction at the end of the step before.
-pub(crate) fn is_number_read(p: &Problem, list: usize, name: u32) -> bool
+pub fn is_number_read(p: &Problem, list: usize, name: u32) -> bool
     requires form { IsProblemInForm p.now }
     requires faultless { IsFaultless p.now }
     requires list { list < 2 }

@@ -14,8 +14,8 @@ use crate::plan::details::patch_count;
 use crate::plan::old_reads::{is_number_read, is_required, read_patches};
 use crate::plan::tally::Tally;
 use crate::plan::windows::level_at;
-use crate::supplies::centring_of;
 use patch_regions::owned;
+use problem_lookup::centring_of;
 use problem_types::{Centring, Problem};
 use uts_geom::volume;
 

@@ -15,7 +15,8 @@ use crate::plan::details::{part_count, patch_count, reduces_count};
 use crate::plan::kept::Touches;
 use crate::plan::reach::Reach;
 use crate::slices::tasks;
-use crate::supplies::{centring_of, seen_of};
+use crate::supplies::seen_of;
+use problem_lookup::centring_of;
 use problem_types::{Problem, Require, Task, What};
 use task_rules::wanted_name;
 
@@ -30,7 +31,7 @@ fn up_to_limit(n: u64) -> Option<u64>
 }
 
 /// What a requirement reaches: nothing where it is of a reduction.
-pub(crate) fn reach_of(t: &Task, r: Require) -> Option<Reach>
+pub fn reach_of(t: &Task, r: Require) -> Option<Reach>
     ensures { result ≡ reach_of t.now r.store r.what }
 {
     match r.what {

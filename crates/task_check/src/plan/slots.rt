@@ -12,8 +12,8 @@ ghost use Rattle.task_check.specs.Sizes.{IsTask, line_size, line_total, owned_on
 use crate::plan::details::{part_count, patch_count, reduces_count};
 use crate::plan::windows::level_at;
 use crate::slices::tasks;
-use crate::supplies::centring_of;
 use patch_regions::owned;
+use problem_lookup::centring_of;
 use problem_types::{Centring, Problem, Task, Write, WriteKind};
 use uts_geom::volume;
 

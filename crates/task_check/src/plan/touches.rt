@@ -20,7 +20,7 @@ pub(crate) fn patch_count(l: &Level) -> u32
 }
 
 /// The level that is reached.
-pub(crate) fn reached_level(reach: Reach, level: u64) -> u64
+pub fn reached_level(reach: Reach, level: u64) -> u64
     requires { level ≤ 4 }
     ensures { result ≡ reached_level reach level }
 {

@@ -21,9 +21,10 @@ ghost use Rattle.task_check.specs.Reaches.{IsFewReached, reach_window};
 ghost use Rattle.task_check.specs.Supplies.{seen_by_kind, seen_of};
 
 use crate::plan::reach::Reach;
-use crate::supplies::{centring_of, seen_of};
+use crate::supplies::seen_of;
 use ghost_rules::{Seen, window};
 use patch_regions::{index_space, owned, patch_box, patch_line, spans_meet_in_indexes};
+use problem_lookup::centring_of;
 use problem_types::{
     BoxLine, Centring, Ghost, GhostKind, Level, Problem, Require, Store, Task, Var, What, Write,
     WriteKind,
@@ -32,7 +33,7 @@ use task_rules::wanted_name;
 use uts_geom::{Axis, Index, Span, point_like};
 
 /// The level of this number.
-pub(crate) fn level_at(p: &Problem, level: u64) -> &Level
+pub fn level_at(p: &Problem, level: u64) -> &Level
     requires { level < length p.now.levels }
     ensures { slice_get p.now.levels level ≡ Some result.now }
 {
@@ -40,7 +41,7 @@ pub(crate) fn level_at(p: &Problem, level: u64) -> &Level
 }
 
 /// The level on which a requirement wants its variable, by the task's level.
-pub(crate) fn wanted_level(what: What, level: u64) -> u64
+pub fn wanted_level(what: What, level: u64) -> u64
     requires { level < 4 }
     ensures { result ≡ wanted_level what level }
 {
@@ -127,7 +128,7 @@ fn window_seen(seen: Seen, c: Centring, l: &Level, patch: u32) -> Span
 }
 
 /// The window around a patch of a level, in the indexes of the level that is reached.
-pub(crate) fn reach_window(p: &Problem, reach: Reach, c: Centring, level: u64, patch: u32) -> Span
+pub fn reach_window(p: &Problem, reach: Reach, c: Centring, level: u64, patch: u32) -> Span
     requires form { IsProblemInForm p.now }
     requires faultless { IsFaultless p.now }
     requires few { IsFewReached reach }
@@ -180,7 +181,7 @@ pub(crate) fn box_window(p: &Problem, what: What, from: u64) -> Span
 }
 
 /// The window that a requirement of a task asks for around a patch of the task's level.
-pub(crate) fn wanted_window(p: &Problem, t: &Task, r: Require, level: u64, patch: u32) -> Span
+pub fn wanted_window(p: &Problem, t: &Task, r: Require, level: u64, patch: u32) -> Span
     requires form { IsProblemInForm p.now }
     requires faultless { IsFaultless p.now }
     requires few { layers_of r.what ≤ 8 }
