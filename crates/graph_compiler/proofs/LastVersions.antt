@@ -32,11 +32,11 @@ use Rattle.graph_compiler.proofs.Growing.{flat_map-counted}
 use Rattle.graph_compiler.proofs.TaskSlots.{all_shown, slots_before}
 
 -- tests of the items of joined lists
-list_any-map : {X Y : Type 0} (q : Y → Bool) (f : X → Y) (xs : List X) → list_any q (map f xs) ≡ list_any (λ x. q (f x)) xs
+pub list_any-map : {X Y : Type 0} (q : Y → Bool) (f : X → Y) (xs : List X) → list_any q (map f xs) ≡ list_any (λ x. q (f x)) xs
 list_any-map q f [] = refl
 list_any-map q f (x ∷ xs) = ap (λ b. q (f x) || b) (list_any-map q f xs)
 
-list_any-flat_map : {X Y : Type 0} (q : Y → Bool) (f : X → List Y) (xs : List X) → list_any q (flat_map f xs) ≡ list_any (λ x. list_any q (f x)) xs
+pub list_any-flat_map : {X Y : Type 0} (q : Y → Bool) (f : X → List Y) (xs : List X) → list_any q (flat_map f xs) ≡ list_any (λ x. list_any q (f x)) xs
 list_any-flat_map q f [] = refl
 list_any-flat_map q f (x ∷ xs) = list_any-append q (f x) (flat_map f xs) ∙ ap (λ b. list_any q (f x) || b) (list_any-flat_map q f xs)
 

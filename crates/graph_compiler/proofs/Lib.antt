@@ -8,3 +8,22 @@ mod ValidGraphs
 mod ValidDetails
 mod ValidForward
 mod ValidPlans
+pub mod Compiled
+pub mod Standing
+pub mod Laying
+pub mod Ascending
+pub mod Writing
+pub mod PuttingOld
+pub mod OldPlacing
+pub mod OldStanding
+pub mod Declared
+pub mod Searching
+pub mod Merging
+pub mod ReadingSlots
+pub mod ReadingParts
+pub mod Placed
+pub mod OneLine
+pub mod InWindows
+pub mod Joining
+pub mod Wanting
+pub mod Asked

@@ -22,15 +22,15 @@ use Rattle.graph_compiler.specs.declared.plan.SlotKind.TheVariants as kind
 use Rattle.graph_compiler.proofs.Growing.{flat_map-next}
 
 -- lists for each item, joined
-flat_map-map : {X Y A : Type 0} (f : Y → List A) (g : X → Y) (xs : List X) → flat_map f (map g xs) ≡ flat_map (λ x. f (g x)) xs
+pub flat_map-map : {X Y A : Type 0} (f : Y → List A) (g : X → Y) (xs : List X) → flat_map f (map g xs) ≡ flat_map (λ x. f (g x)) xs
 flat_map-map f g [] = refl
 flat_map-map f g (x ∷ xs) = ap (λ rest. f (g x) ++ rest) (flat_map-map f g xs)
 
-flat_map-flat_map : {X Y A : Type 0} (g : Y → List A) (h : X → List Y) (xs : List X) → flat_map g (flat_map h xs) ≡ flat_map (λ x. flat_map g (h x)) xs
+pub flat_map-flat_map : {X Y A : Type 0} (g : Y → List A) (h : X → List Y) (xs : List X) → flat_map g (flat_map h xs) ≡ flat_map (λ x. flat_map g (h x)) xs
 flat_map-flat_map g h [] = refl
 flat_map-flat_map g h (x ∷ xs) = flat_map-append g (h x) (flat_map h xs) ∙ ap (λ rest. flat_map g (h x) ++ rest) (flat_map-flat_map g h xs)
 
-map-flat_map : {X Y A : Type 0} (f : Y → A) (h : X → List Y) (xs : List X) → map f (flat_map h xs) ≡ flat_map (λ x. map f (h x)) xs
+pub map-flat_map : {X Y A : Type 0} (f : Y → A) (h : X → List Y) (xs : List X) → map f (flat_map h xs) ≡ flat_map (λ x. map f (h x)) xs
 map-flat_map f h [] = refl
 map-flat_map f h (x ∷ xs) = map-append f (h x) (flat_map h xs) ∙ ap (λ rest. map f (h x) ++ rest) (map-flat_map f h xs)
 
@@ -67,7 +67,7 @@ at_places {X} {A} f xs (suc n) below = by_item (slice_get_cases xs n).1 (at_plac
         ∙ ap (λ (k : ℕ). flat_map f (take k xs)) (let e : n + 1 ≡ suc n = omega arith in e)
     by_item (inr (past, none)) before = absurd (omega arith)
 
-at_all_places : {X A : Type 0} (f : X → List A) (xs : List X) → flat_map (λ k. option_map_or f (slice_get xs k) []) (counted 0 (length xs)) ≡ flat_map f xs
+pub at_all_places : {X A : Type 0} (f : X → List A) (xs : List X) → flat_map (λ k. option_map_or f (slice_get xs k) []) (counted 0 (length xs)) ≡ flat_map f xs
 at_all_places f xs = at_places f xs (length xs) (omega arith) ∙ ap (flat_map f) (take_all (length xs) xs (omega arith))
 
 -- the task `t` at its place in the list

@@ -38,7 +38,7 @@ before_by_task (OnPatch t l m q) (Combining u k) less = omega arith
 before_by_task (Combining t l) (OnPatch u k n r) less = less
 before_by_task (Combining t l) (Combining u k) less = inl less
 
-not_itself : (d : Detail) → Before d d → ⊥
+pub not_itself : (d : Detail) → Before d d → ⊥
 not_itself (OnPatch t l m q) (inl less) = omega arith
 not_itself (OnPatch t l m q) (inr (same, inl less)) = omega arith
 not_itself (OnPatch t l m q) (inr (same, inr (also, inl less))) = omega arith
@@ -207,7 +207,7 @@ written_is_new (Number task line) d by = refl
 two_same : (a b c d : ℕ) → ((a == b) && (c == d)) ≡ true → (a ≡ b) × (c ≡ d)
 two_same a b c d same = let two = and_parts (a == b) (c == d) same in (eqb-true a b two.0, eqb-true c d two.1)
 
-same_is : (s x : Slot) → is_same s x ≡ true → s ≡ x
+pub same_is : (s x : Slot) → is_same s x ≡ true → s ≡ x
 same_is (Old a b c d) (Old e f g h) same =
     let first = and_parts (a == e) ((b == f) && ((c == g) && (d == h))) same in
     let second = and_parts (b == f) ((c == g) && (d == h)) first.1 in
@@ -250,7 +250,7 @@ same_is s x same = absurd cc
 itself : (n : ℕ) → (n == n) ≡ true
 itself n = eq-eqb n n refl
 
-same_itself : (s : Slot) → is_same s s ≡ true
+pub same_itself : (s : Slot) → is_same s s ≡ true
 same_itself (Old a b c d) = rw (itself a, itself b, itself c, itself d) refl
 same_itself (OldNumber a) = itself a
 same_itself (New a b c d e) = rw (itself a, itself b, itself c, itself d, itself e) refl
@@ -285,7 +285,7 @@ module _ (tasks : List Task) where
     all_by : (lines : List ℕ) → All is_by_it (flat_map written_at lines)
     all_by lines = all-flat_map is_by_it written_at lines (λ i line on. line_is_by (get_or lines i line))
 
-  written_is_by : (d : Detail) → All (λ s. IsBy s d) (written_by tasks d)
+  pub written_is_by : (d : Detail) → All (λ s. IsBy s d) (written_by tasks d)
   written_is_by (OnPatch task level material patch) = all_by task level material patch (counted 0 (option_map_or (λ t. length t.writes) (slice_get tasks task) 0))
   written_is_by (Combining task line) = All-cons (λ s. IsBy s (Combining task line)) (Number task line) [] refl (All-nil (λ s. IsBy s (Combining task line)))
 

@@ -25,19 +25,19 @@ use Rattle.graph_compiler.specs.Plan.{is_writing}
 use Rattle.graph_compiler.proofs.ValidLists.{any_at, at_place, of_option}
 use Rattle.graph_compiler.proofs.ValidDetails.{IsBy, Precedes, task_of, precedes_by_task, parts_precede, writer_is}
 
-get-take : {A : Type 0} (xs : List A) (n k : ℕ) → k < n → slice_get (take n xs) k ≡ slice_get xs k
+pub get-take : {A : Type 0} (xs : List A) (n k : ℕ) → k < n → slice_get (take n xs) k ≡ slice_get xs k
 get-take xs zero k below = absurd (omega arith)
 get-take [] (suc n) k below = refl
 get-take (x ∷ xs) (suc n) zero below = refl
 get-take (x ∷ xs) (suc n) (suc k) below = get-take xs n k (omega arith)
 
-from_take : {A : Type 0} (xs : List A) (n k : ℕ) (x : A) → slice_get (take n xs) k ≡ Some x → (k < n) × (slice_get xs k ≡ Some x)
+pub from_take : {A : Type 0} (xs : List A) (n k : ℕ) (x : A) → slice_get (take n xs) k ≡ Some x → (k < n) × (slice_get xs k ≡ Some x)
 from_take xs zero k x at = absurd cc
 from_take [] (suc n) k x at = absurd cc
 from_take (y ∷ ys) (suc n) zero x at = (omega arith, at)
 from_take (y ∷ ys) (suc n) (suc k) x at = let rest = from_take ys n k x at in (omega (arith, rest.0), rest.1)
 
-found_at : {A : Type 0} (p : A → Bool) (xs : List A) (k : ℕ) (x : A) → slice_get xs k ≡ Some x → p x ≡ true → is_some (find p xs) ≡ true
+pub found_at : {A : Type 0} (p : A → Bool) (xs : List A) (k : ℕ) (x : A) → slice_get xs k ≡ Some x → p x ≡ true → is_some (find p xs) ≡ true
 found_at p [] k x at passes = absurd cc
 found_at p (y ∷ ys) zero x at passes = let same : y ≡ x = cc in rw (same, passes) refl
 found_at {A} p (y ∷ ys) (suc k) x at passes = by_test (p y) (found_at p ys k x at passes)
@@ -46,7 +46,7 @@ found_at {A} p (y ∷ ys) (suc k) x at passes = by_test (p y) (found_at p ys k x
     by_test true rest = refl
     by_test false rest = rest
 
-place_of_found : {A : Type 0} (p : A → Bool) (xs : List A) → is_some (find p xs) ≡ true → (k : ℕ) × (x : A) × (slice_get xs k ≡ Some x) × (p x ≡ true)
+pub place_of_found : {A : Type 0} (p : A → Bool) (xs : List A) → is_some (find p xs) ≡ true → (k : ℕ) × (x : A) × (slice_get xs k ≡ Some x) × (p x ≡ true)
 place_of_found p [] some = absurd cc
 place_of_found {A} p (y ∷ ys) some = by_test (p y) refl some (place_of_found p ys)
   where
@@ -66,7 +66,7 @@ module _ (p : Problem) (faultless : IsFaultless p) (list : ℕ) (of_two : list <
   tasks = task_list p list
 
   -- no two tasks reduce it
-  reduced_once : (name a b : ℕ) (s t : Task) → a < b → slice_get tasks a ≡ Some s → slice_get tasks b ≡ Some t →
+  pub reduced_once : (name a b : ℕ) (s t : Task) → a < b → slice_get tasks a ≡ Some s → slice_get tasks b ≡ Some t →
       is_some (reduction_write s name) ≡ true → is_some (reduction_write t name) ≡ true → ⊥
   reduced_once name a b s t before at_a at_b first second =
       let line = place_of_found (reduces_it name) t.writes second in

@@ -9,7 +9,7 @@ use Rattle.std.proofs.lemmas.List.Sums.{sum_by-cons}
 use Rattle.std.proofs.lemmas.Option.{slice_get-map, get_or_from_slice_get}
 use Rattle.graph_types.specs.Graph.{IsSlotList, HasLengths, IsWithinLimits, AreSlotsValid, AreTasksOrdered, IsValid, has, reads, writes_of, follows}
 use Rattle.graph_types.specs.declared.graph.Graph.{Graph}
-use Rattle.graph_compiler.specs.Linked.{linked}
+use Rattle.graph_types.specs.Linked.{linked}
 use Rattle.graph_compiler.specs.Plan.{places_of}
 use Rattle.graph_compiler.proofs.ValidLists.{any_at, at_place, placed, all_at, every, count-range, length-places, has-places, are_places}
 

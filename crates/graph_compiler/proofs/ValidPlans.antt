@@ -36,7 +36,7 @@ use Rattle.graph_compiler.proofs.ValidGraphs.{IsFit, fit_is_valid}
 use Rattle.graph_compiler.proofs.ValidDetails.{Before, in_order, ordered_details, old_unwritten, written_are_new, written_once}
 use Rattle.graph_compiler.proofs.ValidForward.{readers_behind}
 
-not_above : (n m : ℕ) → (m < n → ⊥) → n ≤ m
+pub not_above : (n m : ℕ) → (m < n → ⊥) → n ≤ m
 not_above n m none = by_order (cases_lt m n) where
   by_order : (m < n) ⊎ (n ≤ m) → n ≤ m
   by_order (inl above) = absurd (none above)
@@ -82,11 +82,11 @@ module _ (p : Problem) (tasks : List Task) where
   numbers_are_old : All is_old_slot (old_numbers p)
   numbers_are_old = All-map is_old_slot (λ (q : Reduction). OldNumber q.name) p.reductions (λ i q on. refl)
 
-  olds_are_old : All is_old_slot olds
+  pub olds_are_old : All is_old_slot olds
   olds_are_old = All-filter (is_read p tasks) is_old_slot (old_variables p ++ old_numbers p)
       (All-append is_old_slot (old_variables p) (old_numbers p) variables_are_old numbers_are_old)
 
-  old_count_is : old_count ≡ length olds
+  pub old_count_is : old_count ≡ length olds
   old_count_is =
       sum_by-append (λ s. cond (is_old s) 1 0) olds written
       ∙ omega (
@@ -129,22 +129,24 @@ module _ (p : Problem) (tasks : List Task) where
         (slice_get-map (is_kept_slot p k slots) slots slot ∙ ap (option_map (is_kept_slot p k slots)) (slice_get-map (shown_slot tasks) (slots_of p tasks) slot ∙ ap (option_map (shown_slot tasks)) at))
         ∙ old_goes slots s (is_old_at slot s at below)
 
-    each_kept : length (kept_slots p k (slots_of_list p tasks)) ≡ length (slots_of p tasks)
+    pub each_kept : length (kept_slots p k (slots_of_list p tasks)) ≡ length (slots_of p tasks)
     each_kept = length-map (slots_of_list p tasks) (is_kept_slot p k (slots_of_list p tasks)) ∙ length-map (slots_of p tasks) (shown_slot tasks)
 
-module _ (p : Problem) (k : StepKind) (form : IsProblemInForm p) (accepted : IsAccepted p) (list : ℕ) (of_two : list < 2) where
-  abbrev tasks : List Task
-  tasks = task_list p list
-
-  task_in_form : (place : ℕ) (t : Task) → slice_get tasks place ≡ Some t → IsTaskInForm (length p.names) t
-  task_in_form place t at = all_at (IsTaskInForm (length p.names)) tasks place t at (by_list list of_two).each
+-- a list of a problem in form
+module _ (p : Problem) (form : IsProblemInForm p) (list : ℕ) (of_two : list < 2) where
+  pub task_in_form : (place : ℕ) (t : Task) → slice_get (task_list p list) place ≡ Some t → IsTaskInForm (length p.names) t
+  task_in_form place t at = all_at (IsTaskInForm (length p.names)) (task_list p list) place t at (by_list list of_two).each
     where
       by_list : (n : ℕ) → n < 2 → AreTasksInForm (length p.names) (task_list p n)
       by_list zero below = form.init
       by_list (suc n) below = form.timestep
 
-  ordered : AllPairs Before (details_of p tasks)
-  ordered = ordered_details p tasks (λ place t at. let f = task_in_form place t at in (f.levels.ascending, f.materials.ascending))
+  pub ordered : AllPairs Before (details_of p (task_list p list))
+  ordered = ordered_details p (task_list p list) (λ place t at. let f = task_in_form place t at in (f.levels.ascending, f.materials.ascending))
+
+module _ (p : Problem) (k : StepKind) (form : IsProblemInForm p) (accepted : IsAccepted p) (list : ℕ) (of_two : list < 2) where
+  abbrev tasks : List Task
+  tasks = task_list p list
 
   within : (which : Which) → IsAbove p tasks which → ⊥
   within which above = by_list list of_two above
@@ -160,12 +162,12 @@ module _ (p : Problem) (k : StepKind) (form : IsProblemInForm p) (accepted : IsA
     few_reads = not_above (read_count p tasks) 2097152 (within limit.Reads);
     each_kept = each_kept p tasks k;
     few_old = few_old p tasks;
-    written = λ slot s at from. written_once tasks (details_of p tasks) ordered (slot - length (olds p tasks)) s (written_at p tasks slot s at from);
+    written = λ slot s at from. written_once tasks (details_of p tasks) (ordered p form list of_two) (slot - length (olds p tasks)) s (written_at p tasks slot s at from);
     unwritten = λ slot s at below. old_unwritten tasks s (is_old_at p tasks slot s at below) (details_of p tasks);
     wanted = λ slot s at below. old_wanted p tasks slot s at below;
     let_go = λ slot s at below. let_go p tasks k slot s at below;
     forward = λ first second d e s at_first at_second writing reading.
-        in_order (details_of p tasks) ordered first second d e at_first at_second (readers_behind p accepted.faultless list of_two d e s writing reading);
+        in_order (details_of p tasks) (ordered p form list of_two) first second d e at_first at_second (readers_behind p accepted.faultless list of_two d e s writing reading);
   }
 
   graph_is_valid : IsValid (graph_of p tasks (kept_slots p k (slots_of_list p tasks)))

@@ -1,8 +1,9 @@
 -- Which slots stay after a step: those that the next step or the dump wants, and nothing else.
-use Rattle.std.specs.Prelude.{ℕ, ◌==◌, Bool, true, false, not, ◌&&◌, ◌||◌, List, map, nat_lt}
+use Rattle.std.specs.Prelude.{ℕ, ◌<◌, ◌==◌, Bool, true, false, not, ◌&&◌, ◌||◌, List, length, map, nat_lt}
 use Rattle.std.specs.List.{list_any}
 use Rattle.problem_types.specs.declared.problem.Problem.{Problem}
-use Rattle.task_check.specs.Plan.{Old, OldNumber, is_read}
+use Rattle.task_rules.specs.Names.{IsVariable, IsReduction}
+use Rattle.task_check.specs.Plan.{Old, OldNumber, is_read, patches_of}
 use Rattle.graph_compiler.specs.declared.plan.Slot.{Slot}
 use Rattle.graph_compiler.specs.declared.plan.SlotKind.{SlotKind}
 use Rattle.graph_compiler.specs.declared.plan.SlotKind.TheVariants as kind
@@ -52,3 +53,18 @@ is_kept_slot p k slots s = is_final slots s.kind s && ((k.next && is_wanted_by_n
 
 abbrev pub kept_slots : Problem → StepKind → List Slot → List Bool
 kept_slots p k slots = map (is_kept_slot p k slots) slots
+
+-- the slot is of a variable that is declared, on a level, a material and a patch of the problem
+pub record IsOnGrid (p : Problem) (s : Slot) : Type 0 where
+  pub level : s.level < length p.levels
+  pub material : s.material < p.materials.value
+  pub patch : s.patch < length (patches_of p s.level)
+  pub declared : IsVariable p s.name
+
+-- where the next step might read the slot, it is of something that is declared
+abbrev pub IsDeclared : Problem → SlotKind → Slot → Type 0
+IsDeclared p kind.Old s = Unit {0}
+IsDeclared p kind.New s = IsOnGrid p s
+IsDeclared p kind.Part s = Unit {0}
+IsDeclared p kind.Number s = IsReduction p s.name
+IsDeclared p kind.OldNumber s = Unit {0}

@@ -20,3 +20,8 @@ list_at (suc n) = list.Timestep
 -- the kind of a step: its list, whether a step follows, and whether the dump shows it
 abbrev pub kind_at : Problem → ℕ → StepKind
 kind_at p step = record { list = list_at step; next = nat_lt step p.steps.value; dump = is_dumped p step }
+
+-- the number of a list: 0 for the list of step 0, 1 for that of each later step
+abbrev pub list_number : ListKind → ℕ
+list_number list.Init = 0
+list_number list.Timestep = 1

@@ -1,7 +1,11 @@
 pub mod Kinds
-pub mod Linked
 pub mod Shown
 pub mod Written
 pub mod Kept
 pub mod Plan
+pub mod Places
+pub mod Layouts
+pub mod Searched
+pub mod Sources
+pub mod Reading
 pub mod Laws

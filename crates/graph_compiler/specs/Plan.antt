@@ -9,7 +9,7 @@ use Rattle.graph_types.specs.declared.graph.Graph.{Graph}
 use Rattle.task_check.specs.Plan.{Detail as DetailedTask, Slot as TaskSlot, Old, OldNumber, New, Part, Number, details_of, slots_of, written_by, reads as is_reading}
 use Rattle.graph_compiler.specs.Kinds.{tasks_in}
 use Rattle.graph_compiler.specs.Kept.{kept_slots}
-use Rattle.graph_compiler.specs.Linked.{linked}
+use Rattle.graph_types.specs.Linked.{linked}
 use Rattle.graph_compiler.specs.Shown.{shown_slot, shown_task}
 use Rattle.graph_compiler.specs.declared.plan.Detail.{Detail}
 use Rattle.graph_compiler.specs.declared.plan.Plan.{Plan}
@@ -54,6 +54,20 @@ reads_of_list p tasks = map (λ d. places_of (is_reading p tasks d) (slots_of p 
 
 abbrev pub writes_of_list : Problem → List Task → List (List ℕ)
 writes_of_list p tasks = map (λ d. places_of (is_writing tasks d) (slots_of p tasks)) (details_of p tasks)
+
+-- a graph of which it is told who reads and writes what, and what is kept
+abbrev pub unlinked : (old : ℕ) → (reads writes : List (List ℕ)) → (kept : List Bool) → Graph
+unlinked old reads writes kept = record {
+  tasks = length reads;
+  old = old;
+  slots = length kept;
+  reads = reads;
+  writes = writes;
+  successors = [];
+  predecessors = [];
+  uses = [];
+  kept = kept;
+}
 
 -- the graph of a list of tasks, by the slots that are kept
 unfoldable pub graph_of : Problem → List Task → (kept : List Bool) → Graph

@@ -151,7 +151,11 @@ fn put_task(details: &mut Items<Detail>, p: &Problem, task: u32, t: &Task) -> Re
 }
 
 /// The detailed tasks of a list.
-pub fn detailed_tasks(alloc: Global, p: &Problem, tasks: &[Task]) -> Result<Items<Detail>, NoMemory>
+pub(crate) fn detailed_tasks(
+    alloc: Global,
+    p: &Problem,
+    tasks: &[Task],
+) -> Result<Items<Detail>, NoMemory>
     requires limits { IsBounded p.now }
     requires tasks { AreBoundedTasks p.now tasks.now }
     requires few_lines { All (λ t. IsShort t.writes) tasks.now }

@@ -31,7 +31,7 @@ fn is_last_version(tasks: &[Task], s: Slot) -> bool
 }
 
 /// Whether the slot of a plan of the list holds how a variable or a reduction stands at the end of the step.
-pub fn is_final(tasks: &[Task], s: Slot) -> bool
+pub(crate) fn is_final(tasks: &[Task], s: Slot) -> bool
     requires few { length tasks.now ≤ 64 }
     ensures { (p : Problem) → IsProblemInForm p → AreBoundedTasks p tasks.now → result ≡ is_final (slots_of_list p tasks.now) s.kind s }
 {

@@ -1,16 +1,24 @@
 //! Lists of tasks compiled to task graphs. `docs/task-graph.md` states what stands in a graph.
 #![tactic(auto)]
 
+mod compiling;
 mod details;
 mod finals;
+mod kept;
 mod kinds;
 mod laws;
+mod layout;
+mod old_places;
+mod old_reads;
+mod old_slots;
 mod plan;
+mod reads;
+mod sources;
+mod touched;
+mod writes;
 mod written;
 
-pub use details::detailed_tasks;
-pub use finals::is_final;
+pub use compiling::compile;
 pub use kinds::kind_of;
 pub use laws::plans_are_valid;
 pub use plan::{Detail, ListKind, Plan, Slot, SlotKind, StepKind};
-pub use written::put_written;

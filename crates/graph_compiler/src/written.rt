@@ -231,7 +231,7 @@ fn earlier(tasks: &[Task], place: usize) -> &[Task]
 }
 
 /// Puts the slots that the detailed tasks of a list write at the end.
-pub fn put_written(
+pub(crate) fn put_written(
     alloc: Global,
     slots: &mut Items<Slot>,
     p: &Problem,

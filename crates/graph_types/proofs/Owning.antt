@@ -7,9 +7,10 @@ use Rattle.std.proofs.lemmas.Bool.{cases_Bool, eq-eqb, false_from_ne_true, ne_eq
 use Rattle.std.proofs.lemmas.List.{get_or-replicate, length-replicate}
 use Rattle.graph_types.specs.declared.graph.Graph.{Graph}
 use Rattle.graph_types.specs.Counting.{any_alike, has_swap}
-use Rattle.graph_types.specs.Facts.{only_writer}
-use Rattle.graph_types.specs.Graph.{AreSlotsValid, follows, has, reads_of, writes, writes_of}
-use Rattle.graph_types.specs.Parts.{AreLeaders, AreNoted, AreOwners, HasLists}
+use Rattle.graph_types.specs.Facts.{only_one}
+use Rattle.graph_types.specs.Linked.{IsLinkable}
+use Rattle.graph_types.specs.Graph.{follows, has, reads_of, writes, writes_of}
+use Rattle.graph_types.specs.Parts.{AreLeaders, AreNoted, AreOwners}
 use Rattle.graph_types.proofs.Writing.{IsOwned}
 
 -- the table has the writers among the tasks before one, and else no task
@@ -28,7 +29,7 @@ owners_none g = record {
 pub owners_all : (g : Graph) (owners : List ℕ) → AreOwnersBefore g g.tasks owners → AreOwners g owners
 owners_all g owners all = record { size = all.size; at = all.at }
 
-module _ (g : Graph) (valid : AreSlotsValid g) (before : ℕ) (room : before < g.tasks) (old now : List ℕ) (size : length now ≡ length old) (done : AreOwnersBefore g before old)
+module _ (g : Graph) (linkable : IsLinkable g) (before : ℕ) (room : before < g.tasks) (old now : List ℕ) (size : length now ≡ length old) (done : AreOwnersBefore g before old)
     (put : IsOwned old now (writes_of g before) before) where
   put_there : (slot : ℕ) → slot < g.slots → writes g before slot ≡ true → get_or now slot 0 ≡ before
   put_there slot there owned = put slot (omega (arith, done.size)) ∙ ap (λ (b : Bool). cond b before (get_or old slot 0)) owned
@@ -42,7 +43,7 @@ module _ (g : Graph) (valid : AreSlotsValid g) (before : ℕ) (room : before < g
       ap (λ (t : ℕ). writes g t slot) here ∙ owned ∙ sym (eq-eqb (get_or now slot 0) task (put_there slot there owned ∙ sym here))
   at_owned task slot there owned (inr less) =
       let other : get_or now slot 0 ≢ task = omega (arith, put_there slot there owned) in
-      false_from_ne_true (writes g task slot) (λ also. absurd (omega (arith, only_writer g valid slot task before there (omega arith) room also owned)))
+      false_from_ne_true (writes g task slot) (λ also. absurd (omega (arith, only_one g slot (linkable.once slot there) task before (omega arith) room also owned)))
       ∙ sym (ne_eqb (get_or now slot 0) task other)
 
   not_this : (slot : ℕ) → (get_or old slot 0 < before) ⊎ (get_or old slot 0 ≡ g.tasks) → get_or old slot 0 ≢ before
@@ -74,22 +75,22 @@ module _ (g : Graph) (valid : AreSlotsValid g) (before : ℕ) (room : before < g
   }
 
 -- a task follows the owners of the slots that it reads
-pub follows_by_owners : (g : Graph) → HasLists g → (owners : List ℕ) → AreOwners g owners → (first second : ℕ) → first < g.tasks → second < g.tasks →
+pub follows_by_owners : (g : Graph) → IsLinkable g → (owners : List ℕ) → AreOwners g owners → (first second : ℕ) → first < g.tasks → second < g.tasks →
     follows g first second ≡ list_any (λ slot. get_or owners slot 0 == first) (reads_of g second)
-follows_by_owners g lists owners owned first second here there =
-    let slots = (lists.reads second [] (omega (arith, lists.lengths.reads))).below in
+follows_by_owners g linkable owners owned first second here there =
+    let slots = (linkable.reads second [] (omega (arith, linkable.reads_count))).below in
     has_swap (reads_of g second) (writes_of g first)
     ∙ any_alike (has (writes_of g first)) (λ slot. get_or owners slot 0 == first) (reads_of g second) (λ k d below. owned.at first (get_or (reads_of g second) k d) here (slots k d below))
 
 -- what is found by the owners of what a task reads
-pub leaders_from : (g : Graph) → HasLists g → (owners : List ℕ) → AreOwners g owners → (task : ℕ) → task < g.tasks → (seen : List ℕ) (mark : ℕ) (found slots : List ℕ) →
+pub leaders_from : (g : Graph) → IsLinkable g → (owners : List ℕ) → AreOwners g owners → (task : ℕ) → task < g.tasks → (seen : List ℕ) (mark : ℕ) (found slots : List ℕ) →
     AreNoted seen mark found → length seen ≡ g.tasks → slots ≡ reads_of g task →
     ((first : ℕ) → first < g.tasks → has found first ≡ list_any (λ slot. get_or owners slot 0 == first) slots) → AreLeaders g task found
-leaders_from g lists owners owned task there seen mark found slots noted size same are = record {
+leaders_from g linkable owners owned task there seen mark found slots noted size same are = record {
   once = noted.once;
   within = λ k d below. (let less : get_or found k d < length seen = noted.within k d below in omega (arith, size));
   are = λ first here.
       are first here
       ∙ ap (λ (ss : List ℕ). list_any (λ slot. get_or owners slot 0 == first) ss) same
-      ∙ sym (follows_by_owners g lists owners owned first task here there);
+      ∙ sym (follows_by_owners g linkable owners owned first task here there);
 }

@@ -43,12 +43,13 @@ followers_more g task leaders old now led counted size raised = record {
 
 -- ---- one task
 
+pub count_of_leaders : (g : Graph) (task : ℕ) (leaders : List ℕ) → AreLeaders g task leaders → count_by (λ first. follows g first task) (tasks_of g) ≡ length leaders
+count_of_leaders g task leaders led =
+    count_alike (λ first. follows g first task) (has leaders) g.tasks (λ first there. sym (led.are first there)) ∙ once_count leaders g.tasks led.once led.within
+
 module _ (g : Graph) (task : ℕ) (leaders before : List ℕ) (led : AreLeaders g task leaders) (counted : AreFollowersCounted g task before) where
   abbrev IsNext : ℕ → Type 0
   IsNext first = slice_get (successors_of g first) (get_or before first 0) ≡ Some task
-
-  count_of_leaders : count_by (λ first. follows g first task) (tasks_of g) ≡ length leaders
-  count_of_leaders = count_alike (λ first. follows g first task) (has leaders) g.tasks (λ first there. sym (led.are first there)) ∙ once_count leaders g.tasks led.once led.within
 
   leads : (first : ℕ) → has leaders first ≡ true → (first < g.tasks) × (follows g first task ≡ true)
   leads first there = let within = has_all (λ p. p < g.tasks) leaders led.within first there in (within, sym (led.are first within) ∙ there)
@@ -56,7 +57,7 @@ module _ (g : Graph) (task : ℕ) (leaders before : List ℕ) (led : AreLeaders 
   pub ordered_from : All (λ first. first < task) leaders → length leaders ≡ get_or g.predecessors task 0 → All IsNext leaders → IsTaskOrdered g task
   ordered_from behind many next = record {
     behind = λ first there follow. has_all (λ p. p < task) leaders behind first (led.are first there ∙ follow);
-    predecessors = sym many ∙ sym count_of_leaders;
+    predecessors = sym many ∙ sym (count_of_leaders g task leaders led);
     listed = λ first there follow.
         subst (λ (k : ℕ). slice_get (successors_of g first) k ≡ Some task) (counted.at first there)
         (has_all IsNext leaders next first (led.are first there ∙ follow));
@@ -66,7 +67,7 @@ module _ (g : Graph) (task : ℕ) (leaders before : List ℕ) (led : AreLeaders 
   behind_of ordered = all_has (λ p. p < task) leaders (λ first there. (let lead = leads first there in ordered.behind first lead.0 lead.1))
 
   pub many_of : IsTaskOrdered g task → length leaders ≡ get_or g.predecessors task 0
-  many_of ordered = sym count_of_leaders ∙ sym ordered.predecessors
+  many_of ordered = sym (count_of_leaders g task leaders led) ∙ sym ordered.predecessors
 
   pub next_of : IsTaskOrdered g task → All IsNext leaders
   next_of ordered = all_has IsNext leaders (λ first there. (let lead = leads first there in

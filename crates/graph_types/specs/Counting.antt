@@ -22,7 +22,7 @@ range_from a (suc n) =
     let next : a + 1 + n ≡ a + suc n = omega arith in
     ap (λ (xs : List ℕ). a ∷ xs) (range_from (a + 1) n ∙ ap (λ (k : ℕ). range_with_len (a + 1) n ++ k ∷ []) next)
 
-range_suc : (n : ℕ) → range_with_len 0 (suc n) ≡ range_with_len 0 n ++ n ∷ []
+pub range_suc : (n : ℕ) → range_with_len 0 (suc n) ≡ range_with_len 0 n ++ n ∷ []
 range_suc n = let here : 0 + n ≡ n = omega arith in range_from 0 n ∙ ap (λ (k : ℕ). range_with_len 0 n ++ k ∷ []) here
 
 pub all_below : (n : ℕ) → All (λ k. k < n) (range_with_len 0 n)
@@ -121,7 +121,7 @@ count_places f xs d n size =
 
 -- ---- the numbers that pass
 
-filter_suc : (p : ℕ → Bool) (n : ℕ) → filter p (range_with_len 0 (suc n)) ≡ filter p (range_with_len 0 n) ++ cond (p n) (n ∷ []) []
+pub filter_suc : (p : ℕ → Bool) (n : ℕ) → filter p (range_with_len 0 (suc n)) ≡ filter p (range_with_len 0 n) ++ cond (p n) (n ∷ []) []
 filter_suc p n = ap (filter p) (range_suc n) ∙ filter-append p (range_with_len 0 n) (n ∷ [])
 
 get_left : (xs ys : List ℕ) (k x : ℕ) → slice_get xs k ≡ Some x → slice_get (xs ++ ys) k ≡ Some x

@@ -23,19 +23,22 @@ few_readers g slot = count_within (λ task. has (reads_of g task) slot) g.tasks
 pub few_writers : (g : Graph) (slot : ℕ) → writers g slot ≤ g.tasks
 few_writers g slot = count_within (λ task. has (writes_of g task) slot) g.tasks
 
-most_writers : (g : Graph) → AreSlotsValid g → (slot : ℕ) → slot < g.slots → writers g slot ≤ 1
+pub most_writers : (g : Graph) → AreSlotsValid g → (slot : ℕ) → slot < g.slots → writers g slot ≤ 1
 most_writers g valid slot there = elim (cases_lt slot g.old) [
   | inl old ↦ omega (arith, valid.unwritten slot old)
   | inr new ↦ omega (arith, valid.written slot new there)
 ]
 
--- two tasks that write one slot are one
-pub only_writer : (g : Graph) → AreSlotsValid g → (slot a b : ℕ) → slot < g.slots → a < g.tasks → b < g.tasks → writes g a slot ≡ true → writes g b slot ≡ true → a ≡ b
-only_writer g valid slot a b there a_there b_there by_a by_b = elim (cases_order a b) [
+-- two tasks that write one slot are one, where at most one writes it
+pub only_one : (g : Graph) (slot : ℕ) → writers g slot ≤ 1 → (a b : ℕ) → a < g.tasks → b < g.tasks → writes g a slot ≡ true → writes g b slot ≡ true → a ≡ b
+only_one g slot most a b a_there b_there by_a by_b = elim (cases_order a b) [
   | inl same ↦ same
-  | inr (inl less) ↦ absurd (omega (arith, count_two (λ task. writes g task slot) g.tasks a b less b_there by_a by_b, most_writers g valid slot there))
-  | inr (inr more) ↦ absurd (omega (arith, count_two (λ task. writes g task slot) g.tasks b a more a_there by_b by_a, most_writers g valid slot there))
+  | inr (inl less) ↦ absurd (omega (arith, count_two (λ task. writes g task slot) g.tasks a b less b_there by_a by_b))
+  | inr (inr more) ↦ absurd (omega (arith, count_two (λ task. writes g task slot) g.tasks b a more a_there by_b by_a))
 ]
+
+pub only_writer : (g : Graph) → AreSlotsValid g → (slot a b : ℕ) → slot < g.slots → a < g.tasks → b < g.tasks → writes g a slot ≡ true → writes g b slot ≡ true → a ≡ b
+only_writer g valid slot a b there = only_one g slot (most_writers g valid slot there) a b
 
 -- a slot that is not old has a writer
 pub some_writer : (g : Graph) → AreSlotsValid g → (slot : ℕ) → g.old ≤ slot → slot < g.slots → (task : ℕ) × (task < g.tasks) × (writes g task slot ≡ true)

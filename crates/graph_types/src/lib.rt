@@ -2,6 +2,7 @@
 #![tactic(auto)]
 
 mod graph;
+mod links;
 mod lists;
 mod memory;
 mod order;
@@ -10,10 +11,12 @@ mod slots;
 mod tables;
 #[cfg(test)]
 mod tests;
+mod uses;
 mod validity;
 mod wants;
 
 pub use graph::Graph;
+pub use links::linked;
 pub use memory::NoMemory;
 pub use validity::valid;
 pub use wants::Wants;

@@ -3,6 +3,7 @@
 ghost use Rattle.std.specs.Prelude.{◌≡◌, ◌≤◌, ◌<◌, ◌+◌, ◌==◌, ◌||◌, ◌↔◌, ℕ, Some, IfOk, IsTrue, OnOk, All, length, slice_get, slice_index};
 ghost use Rattle.std.specs.List.{list_any};
 ghost use Rattle.graph_types.specs.Graph.{AreTasksOrdered, AreSlotsValid, has, successors_of};
+ghost use Rattle.graph_types.specs.Linked.{IsLinkable};
 ghost use Rattle.graph_types.specs.Parts.{AreFollowersCounted, AreLeaders, AreNoted, AreOwners, HasLists, IsTaskOrdered, followers_before};
 
 use crate::lists::list_at;
@@ -24,22 +25,25 @@ fn note(found: &mut Vec<u32>, seen: &mut [u32], owner: u32, mark: u32) -> Result
     Ok(())
 }
 
-/// The owners of the slots, each once.
-fn leaders(
+/// The tasks that one follows, each once.
+pub(crate) fn leaders_of(
     alloc: Global,
+    g: &Graph,
     owners: &[u32],
     seen: &mut [u32],
-    slots: &[u32],
-    mark: u32,
+    task: u32,
 ) -> Result<Vec<u32>, NoMemory>
-    requires fresh { All (λ m. m < mark) seen.old }
-    requires slots { All (λ slot. slot < length owners.now) slots.now }
-    ensures noted { IfOk result (λ found. AreNoted seen.new mark found.items) }
-    ensures found { IfOk result (λ found. (task : ℕ) → task < length seen.old → has found.items task ≡ list_any (λ slot. slice_index owners.now slot == task) slots.now) }
+    requires linkable { IsLinkable g.now }
+    requires owners { AreOwners g.now owners.now }
+    requires task { task < g.now.tasks }
+    requires size { length seen.old ≡ g.now.tasks }
+    requires seen { All (λ m. m ≤ task) seen.old }
+    ensures leaders { IfOk result (λ leaders. AreLeaders g.now task leaders.items) }
+    ensures seen { OnOk result (All (λ m. m ≤ task + 1) seen.new) }
 {
     let mut found = Vec::new(alloc);
-    for slot in slots {
-        note(&mut found, seen, owners[*slot as usize], mark)?;
+    for slot in list_at(&g.reads, task) {
+        note(&mut found, seen, owners[*slot as usize], task + 1)?;
     }
     Ok(found)
 }
@@ -112,6 +116,7 @@ fn is_task_ordered(
     task: u32,
 ) -> Result<bool, NoMemory>
     requires lists { HasLists g.now }
+    requires slots { AreSlotsValid g.now }
     requires owners { AreOwners g.now owners.now }
     requires task { task < g.now.tasks }
     requires size { length seen.old ≡ g.now.tasks }
@@ -121,7 +126,7 @@ fn is_task_ordered(
     ensures seen { OnOk result (All (λ m. m ≤ task + 1) seen.new) }
     ensures before { OnOk result (AreFollowersCounted g.now (task + 1) before.new) }
 {
-    let leaders = leaders(alloc, owners, seen, list_at(&g.reads, task), task + 1)?;
+    let leaders = leaders_of(alloc, g, owners, seen, task)?;
     let fits = fits_leaders(g, before, &leaders, task);
     raise(before, &leaders);
     Ok(fits)
@@ -150,6 +155,7 @@ fn are_ordered(
     before: &mut [u32],
 ) -> Result<bool, NoMemory>
     requires lists { HasLists g.now }
+    requires slots { AreSlotsValid g.now }
     requires owners { AreOwners g.now owners.now }
     requires size { length seen.old ≡ g.now.tasks }
     requires seen { All (λ m. m ≤ 0) seen.old }

@@ -1,7 +1,8 @@
 //! Which task writes each slot.
 ghost use Rattle.std.specs.Prelude.{◌≡◌, ◌<◌, ℕ, IfOk, All, cond, length, slice_index};
-ghost use Rattle.graph_types.specs.Graph.{AreSlotsValid, has};
-ghost use Rattle.graph_types.specs.Parts.{AreOwners, HasLists};
+ghost use Rattle.graph_types.specs.Graph.{has};
+ghost use Rattle.graph_types.specs.Linked.{IsLinkable};
+ghost use Rattle.graph_types.specs.Parts.{AreOwners};
 
 use crate::lists::list_at;
 use crate::{Graph, NoMemory};
@@ -19,8 +20,7 @@ fn own(owners: &mut [u32], numbers: &[u32], task: u32)
 
 /// The task that writes each slot, and the number of tasks for an old slot.
 pub(crate) fn owners_of(alloc: Global, g: &Graph) -> Result<Vec<u32>, NoMemory>
-    requires lists { HasLists g.now }
-    requires slots { AreSlotsValid g.now }
+    requires { IsLinkable g.now }
     ensures { IfOk result (λ owners. AreOwners g.now owners.items) }
 {
     let mut owners = vec![in alloc; g.tasks; g.slots as usize]?;

@@ -28,7 +28,7 @@ fn is_kept(g: &Graph, slot: u32) -> bool
 }
 
 /// How many uses a slot has.
-fn use_count(read: u32, written: u32, kept: bool) -> u32
+pub(crate) fn use_count(read: u32, written: u32, kept: bool) -> u32
     requires read { read ≤ 65536 }
     requires written { written ≤ 65536 }
     ensures { result ≡ read + (written + cond kept 1 0) }

@@ -6,13 +6,13 @@ use Rattle.graph_types.proofs.Writing.{owned_as}
 use Rattle.graph_types.proofs.owners.owners_of.Goals as goal
 
 pub list_at-requires : goal.list_at-requires
-list_at-requires c = omega (arith, c.requires.lists.lengths.writes)
+list_at-requires c = omega (arith, c.requires.writes_count)
 
 pub own-requires : goal.own-requires
 own-requires c = λ k d below.
     let task = c.loop-task.task in
-    let there : task < length c.args.g.now.writes = omega (arith, c.requires.lists.lengths.writes) in
-    let here = subst (IsSlotList c.args.g.now.slots) (sym c.list_at.ensures) (c.requires.lists.writes task [] there) in
+    let there : task < length c.args.g.now.writes = omega (arith, c.requires.writes_count) in
+    let here = subst (IsSlotList c.args.g.now.slots) (sym c.list_at.ensures) (c.requires.writes task [] there) in
     let size : length c.deref_mut.result.now ≡ c.args.g.now.slots = ap length c.deref_mut.ensures.value ∙ c.loop-task.invariant.size in
     omega (arith, here.below k d below, size)
 
@@ -24,7 +24,7 @@ loop-task-preserved c =
     let size : length now ≡ length old.items = c.own.auto.owners ∙ ap length c.deref_mut.ensures.value in
     let whole : take old.len (now ++ drop (length now) old.items) ≡ now = take_at now (drop (length now) old.items) old.len (c.own.auto.owners ∙ c.deref_mut.ensures.len) in
     subst (AreOwnersBefore c.args.g.now (task + 1)) (sym whole)
-    (owners_more c.args.g.now c.requires.slots task c.loop-task-test.true old.items now size c.loop-task.invariant
+    (owners_more c.args.g.now c.requires task c.loop-task-test.true old.items now size c.loop-task.invariant
     (owned_as c.deref_mut.result.now old.items now c.list_at.result.now (writes_of c.args.g.now task) task c.deref_mut.ensures.value c.list_at.ensures c.own.ensures))
 
 pub returns : goal.returns

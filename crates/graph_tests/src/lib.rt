@@ -1,0 +1,5 @@
+//! Plans of small problems.
+#![tactic(auto)]
+
+#[cfg(test)]
+mod plans;
