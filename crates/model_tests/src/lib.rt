@@ -3,4 +3,12 @@
 #![tactic(auto)]
 
 #[cfg(test)]
+mod drafts;
+#[cfg(test)]
+mod dumps;
+#[cfg(test)]
+mod fields;
+#[cfg(test)]
+mod runs;
+#[cfg(test)]
 mod witness;

@@ -1,12 +1,12 @@
 //! Small problems, with their numbers worked out by hand.
+use crate::drafts::{accepted, binary, num, read, same};
 use problem_types::{
-    BoxLine, Centring, Expr, Fold, Ghost, GhostKind, How, Level, Name, NoMemory, Num, Op, Problem,
-    Read, Reduction, Require, Store, Task, Var, What, Write, WriteKind, in_form,
+    BoxLine, Centring, Expr, Fold, Ghost, GhostKind, How, Level, Name, NoMemory, Op, Problem,
+    Reduction, Require, Store, Task, Var, What, Write, WriteKind,
 };
-use sqlite_items::{Boxed, Items};
+use sqlite_items::Items;
 use std::alloc::Global;
 use std::test::Fail;
-use task_check::{Refusal, check};
 use uts_geom::Index;
 use uts_model::{Checked, at_index};
 
@@ -20,10 +20,6 @@ fn two<T: Drop>(alloc: Global, first: T, second: T) -> Result<Items<T>, NoMemory
     let mut items = one(alloc, first)?;
     items.push(second)?;
     Ok(items)
-}
-
-fn num(line: u32, value: u64) -> Num {
-    Num { line, value }
 }
 
 /// Six names of one letter.
@@ -96,32 +92,6 @@ fn requiring(mut task: Task, line: u32, store: Store, what: What) -> Result<Task
     Ok(task)
 }
 
-/// A variable on the own level, with so many layers of ghost cells.
-fn same(var: u32, n: u64) -> What {
-    let kind = if n == 0 {
-        GhostKind::None
-    } else {
-        GhostKind::Cells
-    };
-    What::Same {
-        var,
-        layers: Ghost { kind, n },
-    }
-}
-
-fn read(store: Store, how: How, name: u32, x: i64) -> Expr {
-    Expr::Read(Read {
-        store,
-        how,
-        name,
-        offset: [x, 0, 0],
-    })
-}
-
-fn binary(alloc: Global, op: Op, a: Expr, b: Expr) -> Result<Expr, NoMemory> {
-    Ok(Expr::Binary(op, Boxed::new(alloc, a)?, Boxed::new(alloc, b)?))
-}
-
 /// A problem of three steps and two materials, without reductions.
 fn problem(
     alloc: Global,
@@ -149,24 +119,19 @@ fn problem(
     })
 }
 
-/// The problem, which has no fault.
-fn checked(problem: Problem) -> Result<Checked, Fail> {
-    if !in_form(&problem) {
-        return Err("not in form".into());
-    }
-    match check(problem) {
-        Ok(checked) => Ok(checked),
-        Err(Refusal::Fault(_)) => Err("a fault".into()),
-        Err(Refusal::NoMemory) => Err("no memory".into()),
-    }
-}
-
 fn at(x: i64, y: i64, z: i64) -> Index {
     Index { x, y, z }
 }
 
-/// The number of a variable, `None` where there is none.
-fn number(c: &Checked, step: u32, var: u32, material: u32, level: u32, i: Index) -> Option<i64> {
+/// The number of a variable by the definition, `None` where there is none.
+pub(crate) fn number(
+    c: &Checked,
+    step: u32,
+    var: u32,
+    material: u32,
+    level: u32,
+    i: Index,
+) -> Option<i64> {
     let p = c.problem();
     if step > 3 || u64::from(step) > p.steps.value || var as usize >= p.vars.len() {
         return None;
@@ -206,7 +171,7 @@ fn shifted(alloc: Global) -> Result<Problem, NoMemory> {
 
 #[test]
 fn two_cells_are_shifted(rt: HostRuntime) -> Result<(), Fail> {
-    let c = checked(shifted(rt.alloc())?)?;
+    let c = accepted(shifted(rt.alloc())?)?;
     assert_eq!(rt; in_row(&c, 0, 0, 0), Some(3));
     assert_eq!(rt; in_row(&c, 1, 0, 0), Some(-47));
     assert_eq!(rt; in_row(&c, 1, 0, 1), Some(25));
@@ -278,7 +243,7 @@ fn doubled(alloc: Global) -> Result<Problem, NoMemory> {
 
 #[test]
 fn a_reader_before_a_modify_sees_what_stood_before(rt: HostRuntime) -> Result<(), Fail> {
-    let c = checked(doubled(rt.alloc())?)?;
+    let c = accepted(doubled(rt.alloc())?)?;
     assert_eq!(rt; in_row(&c, 0, 0, 0), Some(10));
     assert_eq!(rt; in_row(&c, 0, 1, 0), Some(5));
     assert_eq!(rt; in_row(&c, 0, 2, 0), Some(10));
@@ -312,7 +277,7 @@ fn taken_from_coarse(alloc: Global) -> Result<Problem, NoMemory> {
 
 #[test]
 fn a_coarse_read_goes_by_the_index_rounded_down(rt: HostRuntime) -> Result<(), Fail> {
-    let c = checked(taken_from_coarse(rt.alloc())?)?;
+    let c = accepted(taken_from_coarse(rt.alloc())?)?;
     for (x, want) in [(0, -5), (1, -5), (2, 0), (3, 0)] {
         assert_eq!(rt; number(&c, 0, 1, 0, 1, at(x, 1, 0)), Some(want));
     }
@@ -349,7 +314,7 @@ fn gathered_from_fine(alloc: Global) -> Result<Problem, NoMemory> {
 
 #[test]
 fn a_fine_read_goes_over_the_children_that_there_are(rt: HostRuntime) -> Result<(), Fail> {
-    let c = checked(gathered_from_fine(rt.alloc())?)?;
+    let c = accepted(gathered_from_fine(rt.alloc())?)?;
     for (x, sum, count) in [(0, 0, 0), (1, 60, 8), (2, 76, 8), (3, 0, 0)] {
         assert_eq!(rt; in_row(&c, 0, 1, x), Some(sum));
         assert_eq!(rt; in_row(&c, 0, 2, x), Some(count));
@@ -390,7 +355,7 @@ fn reduced(alloc: Global) -> Result<Problem, NoMemory> {
 
 #[test]
 fn a_reduction_goes_over_all_levels_of_its_task(rt: HostRuntime) -> Result<(), Fail> {
-    let c = checked(reduced(rt.alloc())?)?;
+    let c = accepted(reduced(rt.alloc())?)?;
     assert_eq!(rt; in_row(&c, 1, 0, 3), Some(-11));
     assert_eq!(rt; in_row(&c, 2, 0, 3), Some(1));
     Ok(())
@@ -413,7 +378,7 @@ fn of_two_materials(alloc: Global) -> Result<Problem, NoMemory> {
 
 #[test]
 fn materials_have_numbers_of_their_own(rt: HostRuntime) -> Result<(), Fail> {
-    let c = checked(of_two_materials(rt.alloc())?)?;
+    let c = accepted(of_two_materials(rt.alloc())?)?;
     assert_eq!(rt; number(&c, 0, 0, 0, 0, at(0, 0, 0)), Some(1));
     assert_eq!(rt; number(&c, 0, 0, 1, 0, at(0, 0, 0)), Some(2));
     Ok(())
