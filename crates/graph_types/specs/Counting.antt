@@ -229,7 +229,7 @@ has_swap xs (y ∷ ys) =
 
 -- ---- lists without repeats
 
-rises : (xs : List ℕ) → IsStrictlyIncreasing xs → (j k : ℕ) → j < k → k < length xs → get_or xs j 0 < get_or xs k 0
+pub rises : (xs : List ℕ) → IsStrictlyIncreasing xs → (j k : ℕ) → j < k → k < length xs → get_or xs j 0 < get_or xs k 0
 rises xs up j zero before below = absurd (omega arith)
 rises xs up j (suc k) before below =
     let step : get_or xs k 0 < get_or xs (suc k) 0 = subst (λ (m : ℕ). get_or xs k 0 < get_or xs m 0) (add-one k) (up k (omega arith)) in

@@ -9,8 +9,6 @@ mod order;
 mod owners;
 mod slots;
 mod tables;
-#[cfg(test)]
-mod tests;
 mod uses;
 mod validity;
 mod wants;

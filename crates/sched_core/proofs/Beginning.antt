@@ -1,5 +1,5 @@
 -- A seat that sees its task, and one that aborts, leave sound states.
-use Rattle.std.proofs.Common.{◌≡◌, ◌∙◌, ◌≢◌, ◌≤◌, ◌<◌, ◌+◌, ◌↔◌, ℕ, Bool, false, ◌⊎◌, inl, inr, ap, sym, refl, subst, arith, length-set}
+use Rattle.std.proofs.Common.{◌≡◌, ◌∙◌, ◌≢◌, ◌≤◌, ◌<◌, ◌+◌, ℕ, Bool, false, ◌⊎◌, inl, inr, ap, sym, refl, subst, arith, length-set}
 use Rattle.std.specs.Prelude.{◌==◌, ◌&&◌, slice_set, slice_index}
 use Rattle.std.proofs.lemmas.Bool.{cases_eq, eq-eqb, ne_eqb, lt-ltb, and_from, and_right}
 use Rattle.sched_core.specs.declared.act.Act.{Act}
@@ -11,8 +11,7 @@ use Rattle.sched_core.specs.Core.{holds, holders, runners, runs, is_at, has_behi
 use Rattle.sched_core.specs.Step.{with_view}
 use Rattle.sched_core.specs.Sound.{HasBegun, IsDrawn, IsSound}
 use Rattle.sched_core.proofs.Seats.{IsSeat, counted, count_same, count_less, count_more, count_at_least, sum_same}
-use Rattle.sched_core.proofs.Frames.{SameDues}
-use Rattle.sched_core.proofs.Quiet.{shapes_seat, IsWorkSound, work_framed, work_of}
+use Rattle.sched_core.proofs.Frames.{SameDues, shapes_seat, IsWorkSound, work_framed, work_of, sound_of, fewer_tickets, head_stays, begun_still, lost_none}
 use Rattle.sched_core.proofs.Scripts.{first_opens, has_first}
 use Rattle.sched_core.proofs.Facts.{behind_runs, unpublished, is_task, not_begun}
 
@@ -90,36 +89,23 @@ module _ (c : Core) (seat place task : ℕ) (is : IsSeat c.views seat (view.Tick
   begun : (p : ℕ) → (p ≡ place) ⊎ (p ≡ place → ⊥) → (1 ≤ holders c.views p) ⊎ (HasBegun (slice_index c.ring p) c.published (runners c.views) ⊎ (c.abort ≡ 1)) →
       (1 ≤ holders (slice_set c.views seat (begins task)) p) ⊎ (HasBegun (slice_index c.ring p) c.published (runners (slice_set c.views seat (begins task))) ⊎ (c.abort ≡ 1))
   begun p (inl e) h = inr (inl (task, subst (λ (q : ℕ). slice_index c.ring q ≡ task + 1) (sym e) stands, omega (arith, runs_now)))
-  begun p (inr other) (inl some) = inl (omega (arith, other_tickets p other))
-  begun p (inr other) (inr (inl (t, there, some))) = inr (inl (t, there, omega (arith, more t)))
-  begun p (inr other) (inr (inr aborted)) = inr (inr aborted)
+  begun p (inr other) h =
+      begun_still (slice_index c.ring p) c.abort c.published c.published (holders c.views p) (holders (slice_set c.views seat (begins task)) p) (runners c.views) (runners (slice_set c.views seat (begins task)))
+      (λ some. omega (arith, other_tickets p other)) (λ t there some. omega (arith, more t)) h
 
   pub begin_sound : IsSound (with_view c seat (begins task))
   begin_sound =
       let gone = sum_same c.views seat (view.Ticket place) (begins task) is gone_of refl in
       let halted = sum_same c.views seat (view.Ticket place) (begins task) is halted_of refl in
       let seats = sum_same c.views seat (view.Ticket place) (begins task) is seats_of refl in
-      record {
-        graph = sound.graph;
+      sound_of c (slice_set c.views seat (begins task)) sound.graph work (record {
         shapes = shapes_seat c.graph c.ring c.dep c.published c.left c.turn c.home c.abort c.views seat (begins task) (and_from _ _ (lt-ltb _ _ below) (has_first c.graph task)) sound.shapes;
-        tickets = record {
-          below = λ p some. sound.tickets.below p (omega (arith, fewer p));
-          apart = λ p. omega (arith, fewer p, sound.tickets.apart p);
-        };
-        ring = work.ring;
+        tickets = fewer_tickets c.graph c.head (holders c.views) (holders (slice_set c.views seat (begins task))) fewer sound.tickets;
         running = record {
           drawn = λ t lt some. drawn t (cases_eq t task) lt some;
           apart = λ t. apart t (cases_eq t task);
           told = λ t some. told t (cases_eq t task) some;
         };
-        dependencies = work.dependencies;
-        uses = work.uses;
-        slots = work.slots;
-        done = work.done;
-        head = record { drawn = omega (arith, gone, sound.head.drawn); all = seats ∙ (sound.head.all ∙ sym (length-set c.views seat (begins task))) };
-        nothing_lost = record {
-          aborted = subst (λ (n : ℕ). (c.abort ≡ 1) ↔ (1 ≤ n)) (sym halted) sound.nothing_lost.aborted;
-          ended = λ some. sound.nothing_lost.ended (omega (arith, gone));
-          begun = λ p lt room. begun p (cases_eq p place) (sound.nothing_lost.begun p lt room);
-        };
-      }
+        head = head_stays c (slice_set c.views seat (begins task)) gone seats (length-set c.views seat (begins task)) sound;
+        nothing_lost = lost_none c (slice_set c.views seat (begins task)) gone halted (λ p lt room. begun p (cases_eq p place) (sound.nothing_lost.begun p lt room)) sound;
+      })

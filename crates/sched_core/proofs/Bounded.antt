@@ -9,7 +9,8 @@ use Rattle.std.proofs.lemmas.List.Elements.{All-get_or}
 use Rattle.std.proofs.lemmas.List.FromFn.{length-range_with_len}
 use Rattle.std.proofs.lemmas.List.Sums.{sum_by-le-sum_by, get_or-le-sum_by, count_by-le-length, length-filter}
 use Rattle.graph_types.specs.declared.graph.Graph.{Graph}
-use Rattle.graph_types.specs.Graph.{reads_of, writes_of, successors_of, tasks_of, follows, IsSlotList, IsValid}
+use Rattle.graph_types.specs.Counting.{ascending_once, count_within, once_count}
+use Rattle.graph_types.specs.Graph.{has, reads_of, writes_of, successors_of, tasks_of, follows, IsSlotList, IsValid}
 use Rattle.sched_core.specs.declared.act.Act.TheVariants.{Publishes, LowersUse, LowersSuccessor, Finishes}
 use Rattle.sched_core.specs.declared.view.View.{View}
 use Rattle.sched_core.specs.declared.view.View.TheVariants as view
@@ -19,23 +20,9 @@ use Rattle.sched_core.specs.Core.{reading, lowering, script, view_of, gone_of, h
 use Rattle.sched_core.specs.Sound.{IsSound, IsFilled}
 use Rattle.sched_core.proofs.Places.{length_reading}
 
--- the k-th number of a strictly increasing list is at least k
-rising_at : (xs : List ℕ) → IsStrictlyIncreasing xs → (k : ℕ) → k < length xs → k ≤ slice_index xs k
-rising_at xs up zero below = omega arith
-rising_at xs up (suc k) below =
-    let so_far = rising_at xs up k (omega arith) in
-    let next : slice_index xs k < slice_index xs (k + 1) = up k (omega arith) in
-    let e = ap (slice_index xs) (let at : k + 1 ≡ suc k = omega arith in at) in
-    omega arith
-
+-- a list of slots has as many as there are, at most
 few_slots : (slots : ℕ) (xs : List ℕ) → IsSlotList slots xs → length xs ≤ slots
-few_slots slots xs h = by_length (length xs) refl where
-  by_length : (n : ℕ) → length xs ≡ n → length xs ≤ slots
-  by_length zero e = omega arith
-  by_length (suc n) e =
-      let low = rising_at xs h.ascending n (omega arith) in
-      let high : slice_index xs n < slots = All-get_or (λ slot. slot < slots) xs n 0 (omega arith) h.below in
-      omega arith
+few_slots slots xs h = omega (arith, once_count xs slots (ascending_once xs h.ascending) h.below, count_within (has xs) slots)
 
 module _ (g : Graph) (valid : IsValid g) (task : ℕ) where
   few_reads : length (reads_of g task) ≤ 2097152

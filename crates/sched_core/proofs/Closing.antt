@@ -1,5 +1,5 @@
 -- Seats that are made, halted and joined leave sound states.
-use Rattle.std.proofs.Common.{◌≡◌, ◌∙◌, ◌≤◌, ◌<◌, ◌↔◌, ℕ, true, Some, ◌⊎◌, inl, inr, List, length, sym, refl, subst, arith, length-set}
+use Rattle.std.proofs.Common.{◌≡◌, ◌∙◌, ◌≤◌, ◌<◌, ℕ, true, Some, inr, List, length, sym, refl, subst, arith, length-set}
 use Rattle.std.specs.Prelude.{nat_lt, slice_set, slice_index, slice_index_or}
 use Rattle.std.specs.List.{sum_by, position, position_or_len}
 use Rattle.std.proofs.lemmas.Bool.{ltb-true, false≢true}
@@ -10,9 +10,10 @@ use Rattle.sched_core.specs.declared.view.View.TheVariants as view
 use Rattle.sched_core.specs.declared.state.Core.{Core}
 use Rattle.sched_core.specs.Core.{holds, holders, runners, number_behind, publishes, gone_of, halted_of, seats_of}
 use Rattle.sched_core.specs.Step.{is_unmade, with_view}
-use Rattle.sched_core.specs.Sound.{Shapes, HasBegun, IsSound}
+use Rattle.sched_core.specs.Sound.{Shapes, IsSound}
 use Rattle.sched_core.proofs.Seats.{IsSeat, counted, count_same, sum_same, summed}
-use Rattle.sched_core.proofs.Quiet.{is_running, shapes_seat, quiet_runners, quiet_behind, quiet_dues, quiet_same, IsWorkSound, work_framed, work_of, running_moved}
+use Rattle.sched_core.proofs.Frames.{shapes_seat, IsWorkSound, work_framed, work_of, sound_of, fewer_tickets, head_stays, begun_still, lost_none, running_moved}
+use Rattle.sched_core.proofs.Quiet.{is_running, quiet_runners, quiet_behind, quiet_dues, quiet_same}
 
 -- views of which all that the invariant counts is as before
 module _ (c : Core) (after : List View)
@@ -26,34 +27,16 @@ module _ (c : Core) (after : List View)
     (shapes : Shapes c.graph c.ring c.dep c.published c.left c.turn c.home c.abort after)
     (work : IsWorkSound c after)
     (sound : IsSound c) where
-  still : (place : ℕ) → (1 ≤ holders c.views place) ⊎ (HasBegun (slice_index c.ring place) c.published (runners c.views) ⊎ (c.abort ≡ 1)) →
-      (1 ≤ holders after place) ⊎ (HasBegun (slice_index c.ring place) c.published (runners after) ⊎ (c.abort ≡ 1))
-  still place (inl held) = inl (omega (arith, tickets place))
-  still place (inr (inl (task, is, some))) = inr (inl (task, is, omega (arith, running task)))
-  still place (inr (inr aborted)) = inr (inr aborted)
-
   pub same_numbers : IsSound (record c { views = after })
-  same_numbers = record {
-    graph = sound.graph;
+  same_numbers = sound_of c after sound.graph work (record {
     shapes = shapes;
-    tickets = record {
-      below = λ place some. sound.tickets.below place (omega (arith, tickets place));
-      apart = λ place. omega (arith, tickets place, sound.tickets.apart place);
-    };
-    ring = work.ring;
+    tickets = fewer_tickets c.graph c.head (holders c.views) (holders after) (λ place. omega (arith, tickets place)) sound.tickets;
     running = running_moved c.graph c.head c.head c.ring c.published (holders c.views) (holders after) (runners c.views) (runners after) (number_behind c.graph c.views publishes) (number_behind c.graph after publishes)
         (omega arith) (λ place lt none. sym (tickets place) ∙ none) running publishing sound.running;
-    dependencies = work.dependencies;
-    uses = work.uses;
-    slots = work.slots;
-    done = work.done;
-    head = record { drawn = omega (arith, gone, sound.head.drawn); all = seats ∙ (sound.head.all ∙ sym number) };
-    nothing_lost = record {
-      aborted = subst (λ (n : ℕ). (c.abort ≡ 1) ↔ (1 ≤ n)) (sym halted) sound.nothing_lost.aborted;
-      ended = λ some. sound.nothing_lost.ended (omega (arith, gone));
-      begun = λ place lt room. still place (sound.nothing_lost.begun place lt room);
-    };
-  }
+    head = head_stays c after gone seats number sound;
+    nothing_lost = lost_none c after gone halted (λ place lt room. begun_still (slice_index c.ring place) c.abort c.published c.published (holders c.views place) (holders after place) (runners c.views) (runners after)
+        (λ some. omega (arith, tickets place)) (λ task there some. omega (arith, running task)) (sound.nothing_lost.begun place lt room)) sound;
+  })
 
 -- the first seat that is not made is one, and not made
 made : (v : View) → is_unmade v ≡ true → v ≡ view.Unmade
@@ -90,27 +73,18 @@ halt_sound c seat place is aborted sound =
     let gone = sum_same c.views seat (view.Ticket place) view.Halted is gone_of refl in
     let halted = summed c.views seat (view.Ticket place) view.Halted is halted_of in
     let seats = sum_same c.views seat (view.Ticket place) view.Halted is seats_of refl in
-    record {
-      graph = sound.graph;
+    sound_of c after sound.graph work (record {
       shapes = shapes_seat c.graph c.ring c.dep c.published c.left c.turn c.home c.abort c.views seat view.Halted refl sound.shapes;
-      tickets = record {
-        below = λ p some. sound.tickets.below p (omega (arith, fewer p));
-        apart = λ p. omega (arith, fewer p, sound.tickets.apart p);
-      };
-      ring = work.ring;
+      tickets = fewer_tickets c.graph c.head (holders c.views) (holders after) fewer sound.tickets;
       running = running_moved c.graph c.head c.head c.ring c.published (holders c.views) (holders after) (runners c.views) (runners after) (number_behind c.graph c.views publishes) (number_behind c.graph after publishes)
           (omega arith) (λ p lt none. omega (arith, fewer p)) (quiet_runners c.views seat (view.Ticket place) view.Halted is refl refl) (quiet_behind c.views seat (view.Ticket place) view.Halted is refl refl c.graph publishes) sound.running;
-      dependencies = work.dependencies;
-      uses = work.uses;
-      slots = work.slots;
-      done = work.done;
-      head = record { drawn = omega (arith, gone, sound.head.drawn); all = seats ∙ (sound.head.all ∙ sym (length-set c.views seat view.Halted)) };
+      head = head_stays c after gone seats (length-set c.views seat view.Halted) sound;
       nothing_lost = record {
         aborted = (λ _. omega (arith, halted), λ _. aborted);
         ended = λ some. sound.nothing_lost.ended (omega (arith, gone));
         begun = λ p lt room. inr (inr aborted);
       };
-    }
+    })
   where
     fewer : (p : ℕ) → holders (slice_set c.views seat view.Halted) p ≤ holders c.views p
     fewer p = omega (arith, counted c.views seat (view.Ticket place) view.Halted is (holds p))

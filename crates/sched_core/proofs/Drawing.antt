@@ -9,7 +9,8 @@ use Rattle.sched_core.specs.Core.{holds, holders, runners, number_behind, publis
 use Rattle.sched_core.specs.Step.{drawn}
 use Rattle.sched_core.specs.Sound.{Tickets, HasBegun, IsSound}
 use Rattle.sched_core.proofs.Seats.{IsSeat, seat_of, count_same, count_more, sum_same, summed}
-use Rattle.sched_core.proofs.Quiet.{is_running, shapes_seat, quiet_runners, quiet_behind, quiet_dues, quiet_same, work_framed, work_of, running_moved}
+use Rattle.sched_core.proofs.Frames.{shapes_seat, work_framed, work_of, work_as, sound_of, begun_still, running_moved}
+use Rattle.sched_core.proofs.Quiet.{is_running, quiet_runners, quiet_behind, quiet_dues, quiet_same}
 
 module _ (c : Core) (seat : ℕ) (idle : IsSeat c.views seat view.Idle) (sound : IsSound c) where
   -- a place of a task
@@ -45,38 +46,29 @@ module _ (c : Core) (seat : ℕ) (idle : IsSeat c.views seat view.Idle) (sound :
         let gone = sum_same c.views seat view.Idle (view.Ticket c.head) idle gone_of refl in
         let halted = sum_same c.views seat view.Idle (view.Ticket c.head) idle halted_of refl in
         let seats = sum_same c.views seat view.Idle (view.Ticket c.head) idle seats_of refl in
-        record {
-          graph = sound.graph;
+        sound_of (record c { head = c.head + 1 }) (slice_set c.views seat (view.Ticket c.head)) sound.graph (work_as c (c.head + 1) c.abort (slice_set c.views seat (view.Ticket c.head)) work) (record {
           shapes = shapes_seat c.graph c.ring c.dep c.published c.left c.turn c.home c.abort c.views seat (view.Ticket c.head) refl sound.shapes;
           tickets = tickets_drawn;
-          ring = work.ring;
           running = running_moved c.graph c.head (c.head + 1) c.ring c.published (holders c.views) (holders (slice_set c.views seat (view.Ticket c.head))) (runners c.views) (runners (slice_set c.views seat (view.Ticket c.head))) (number_behind c.graph c.views publishes) (number_behind c.graph (slice_set c.views seat (view.Ticket c.head)) publishes)
               (omega arith)
               (λ place lt none. sym (others place (λ e. omega arith)) ∙ none)
               (quiet_runners c.views seat view.Idle (view.Ticket c.head) idle refl refl)
               (quiet_behind c.views seat view.Idle (view.Ticket c.head) idle refl refl c.graph publishes)
               sound.running;
-          dependencies = work.dependencies;
-          uses = work.uses;
-          slots = work.slots;
-          done = work.done;
           head = record { drawn = omega (arith, gone, sound.head.drawn); all = seats ∙ (sound.head.all ∙ sym (length-set c.views seat (view.Ticket c.head))) };
           nothing_lost = record {
             aborted = subst (λ (n : ℕ). (c.abort ≡ 1) ↔ (1 ≤ n)) (sym halted) sound.nothing_lost.aborted;
             ended = λ some. let h = sound.nothing_lost.ended (omega (arith, gone)) in omega arith;
             begun = λ place lt room. begun place (cases_eq place c.head) lt room;
           };
-        }
+        })
       where
         begun : (place : ℕ) → (place ≡ c.head) ⊎ (place ≡ c.head → ⊥) → place < c.head + 1 → place < c.graph.tasks →
             (1 ≤ holders (slice_set c.views seat (view.Ticket c.head)) place) ⊎ (HasBegun (slice_index c.ring place) c.published (runners (slice_set c.views seat (view.Ticket c.head))) ⊎ (c.abort ≡ 1))
         begun place (inl e) lt room = inl (subst (λ (p : ℕ). 1 ≤ holders (slice_set c.views seat (view.Ticket c.head)) p) (sym e) (omega (arith, own)))
-        begun place (inr other) lt room = still (sound.nothing_lost.begun place (omega arith) room) where
-          still : (1 ≤ holders c.views place) ⊎ (HasBegun (slice_index c.ring place) c.published (runners c.views) ⊎ (c.abort ≡ 1)) →
-              (1 ≤ holders (slice_set c.views seat (view.Ticket c.head)) place) ⊎ (HasBegun (slice_index c.ring place) c.published (runners (slice_set c.views seat (view.Ticket c.head))) ⊎ (c.abort ≡ 1))
-          still (inl held) = inl (omega (arith, others place other))
-          still (inr (inl (task, is, some))) = inr (inl (task, is, omega (arith, quiet_runners c.views seat view.Idle (view.Ticket c.head) idle refl refl task)))
-          still (inr (inr aborted)) = inr (inr aborted)
+        begun place (inr other) lt room =
+            begun_still (slice_index c.ring place) c.abort c.published c.published (holders c.views place) (holders (slice_set c.views seat (view.Ticket c.head)) place) (runners c.views) (runners (slice_set c.views seat (view.Ticket c.head)))
+            (λ some. omega (arith, others place other)) (λ task there some. omega (arith, quiet_runners c.views seat view.Idle (view.Ticket c.head) idle refl refl task)) (sound.nothing_lost.begun place (omega arith) room)
 
   -- a place behind all tasks
   module _ (past : c.graph.tasks ≤ c.head) where
@@ -90,37 +82,26 @@ module _ (c : Core) (seat : ℕ) (idle : IsSeat c.views seat view.Idle) (sound :
         let gone = summed c.views seat view.Idle view.Gone idle gone_of in
         let halted = sum_same c.views seat view.Idle view.Gone idle halted_of refl in
         let seats = sum_same c.views seat view.Idle view.Gone idle seats_of refl in
-        record {
-          graph = sound.graph;
+        sound_of (record c { head = c.head + 1 }) (slice_set c.views seat view.Gone) sound.graph (work_as c (c.head + 1) c.abort (slice_set c.views seat view.Gone) work) (record {
           shapes = shapes_seat c.graph c.ring c.dep c.published c.left c.turn c.home c.abort c.views seat view.Gone refl sound.shapes;
           tickets = record {
             below = λ place some. let h = sound.tickets.below place (omega (arith, same_tickets place)) in (omega arith, omega arith);
             apart = λ place. omega (arith, same_tickets place, sound.tickets.apart place);
           };
-          ring = work.ring;
           running = running_moved c.graph c.head (c.head + 1) c.ring c.published (holders c.views) (holders (slice_set c.views seat view.Gone)) (runners c.views) (runners (slice_set c.views seat view.Gone)) (number_behind c.graph c.views publishes) (number_behind c.graph (slice_set c.views seat view.Gone) publishes)
               (omega arith)
               (λ place lt none. sym (same_tickets place) ∙ none)
               (quiet_runners c.views seat view.Idle view.Gone idle refl refl)
               (quiet_behind c.views seat view.Idle view.Gone idle refl refl c.graph publishes)
               sound.running;
-          dependencies = work.dependencies;
-          uses = work.uses;
-          slots = work.slots;
-          done = work.done;
           head = record { drawn = omega (arith, gone, sound.head.drawn); all = seats ∙ (sound.head.all ∙ sym (length-set c.views seat view.Gone)) };
           nothing_lost = record {
             aborted = subst (λ (n : ℕ). (c.abort ≡ 1) ↔ (1 ≤ n)) (sym halted) sound.nothing_lost.aborted;
             ended = λ some. omega arith;
-            begun = λ place lt room. still place (sound.nothing_lost.begun place (omega arith) room);
+            begun = λ place lt room. begun_still (slice_index c.ring place) c.abort c.published c.published (holders c.views place) (holders (slice_set c.views seat view.Gone) place) (runners c.views) (runners (slice_set c.views seat view.Gone))
+                (λ some. omega (arith, same_tickets place)) (λ task there some. omega (arith, quiet_runners c.views seat view.Idle view.Gone idle refl refl task)) (sound.nothing_lost.begun place (omega arith) room);
           };
-        }
-      where
-        still : (place : ℕ) → (1 ≤ holders c.views place) ⊎ (HasBegun (slice_index c.ring place) c.published (runners c.views) ⊎ (c.abort ≡ 1)) →
-            (1 ≤ holders (slice_set c.views seat view.Gone) place) ⊎ (HasBegun (slice_index c.ring place) c.published (runners (slice_set c.views seat view.Gone)) ⊎ (c.abort ≡ 1))
-        still place (inl held) = inl (omega (arith, same_tickets place))
-        still place (inr (inl (task, is, some))) = inr (inl (task, is, omega (arith, quiet_runners c.views seat view.Idle view.Gone idle refl refl task)))
-        still place (inr (inr aborted)) = inr (inr aborted)
+        })
 
 pub draw_sound : (c : Core) (seat : ℕ) → view_of c seat ≡ view.Idle → IsSound c → IsSound (record c { head = c.head + 1; views = slice_set c.views seat (drawn c c.head) })
 draw_sound c seat is sound = by_order (cases_lt c.head c.graph.tasks) where

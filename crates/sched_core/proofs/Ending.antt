@@ -1,9 +1,7 @@
 -- A seat that aborts before its task, and one that finishes it, leave sound states.
-use Rattle.std.proofs.Common.{◌≡◌, ◌∙◌, ◌≢◌, ◌≤◌, ℕ, Bool, true, false, ◌⊎◌, inl, inr, List, [], ◌∷◌, ap, sym, refl, subst, arith, length-set}
-use Rattle.std.specs.Prelude.{◌==◌, ◌&&◌, ◌||◌, filter, slice_get, slice_set, slice_index}
-use Rattle.std.proofs.lemmas.Bool.{cases_eq, cases_Bool, false≢true, eq-eqb, ne_eqb, and_left, and_right}
-use Rattle.graph_types.specs.declared.graph.Graph.{Graph}
-use Rattle.graph_types.specs.Graph.{has}
+use Rattle.std.proofs.Common.{◌≡◌, ◌∙◌, ◌≢◌, ◌≤◌, ℕ, Bool, false, ◌⊎◌, inl, inr, ap, sym, refl, subst, arith, length-set}
+use Rattle.std.specs.Prelude.{◌==◌, ◌&&◌, slice_get, slice_set, slice_index}
+use Rattle.std.proofs.lemmas.Bool.{cases_eq, eq-eqb, ne_eqb, and_left, and_right}
 use Rattle.sched_core.specs.declared.act.Act.{Act}
 use Rattle.sched_core.specs.declared.view.Due.{Due}
 use Rattle.sched_core.specs.declared.view.Due.TheVariants as due
@@ -11,11 +9,10 @@ use Rattle.sched_core.specs.declared.view.View.{View}
 use Rattle.sched_core.specs.declared.view.View.TheVariants as view
 use Rattle.sched_core.specs.declared.state.Core.{Core}
 use Rattle.sched_core.specs.Core.{script, holds, holders, runners, runs, is_at, act_passes, has_behind, number_behind, is_finished, is_scrub, is_put_at, is_in_hand, is_anything, closes, publishes, lowers_use, lowers_successor, gone_of, halted_of, seats_of}
-use Rattle.sched_core.specs.Sound.{Shapes, IsSound}
+use Rattle.sched_core.specs.Sound.{IsSound}
 use Rattle.sched_core.proofs.Lists.{number_false}
 use Rattle.sched_core.proofs.Seats.{IsSeat, counted, count_same, count_less, count_at_least, sum_same, summed}
-use Rattle.sched_core.proofs.Frames.{SameDues}
-use Rattle.sched_core.proofs.Quiet.{shapes_seat, IsWorkSound, work_framed, work_of}
+use Rattle.sched_core.proofs.Frames.{SameDues, shapes_seat, shapes_as, IsWorkSound, work_framed, work_of, work_as, sound_of, fewer_tickets, head_stays}
 use Rattle.sched_core.proofs.Scripts.{first_opens}
 use Rattle.sched_core.proofs.Facts.{behind_runs, unpublished}
 use Rattle.sched_core.proofs.Beginning.{begins}
@@ -54,23 +51,6 @@ module _ (c : Core) (seat task at : ℕ) (new : View) (is : IsSeat c.views seat 
     scrubbing = λ slot. sym (count_same c.views seat (view.Running task at due.Nothing) new is (is_at c.graph is_scrub (lowers_use slot)) (sym (at_none is_scrub (lowers_use slot))));
   }
 
-shapes_aborted : (g : Graph) (ring dep published left turn : List ℕ) (home : List Bool) (abort : ℕ) (views : List View) →
-    Shapes g ring dep published left turn home abort views → Shapes g ring dep published left turn home 1 views
-shapes_aborted g ring dep published left turn home abort views h = record {
-  ring_length = h.ring_length;
-  dep_length = h.dep_length;
-  published_length = h.published_length;
-  left_length = h.left_length;
-  turn_length = h.turn_length;
-  home_length = h.home_length;
-  some_seat = h.some_seat;
-  few_seats = h.few_seats;
-  published_words = h.published_words;
-  turn_words = h.turn_words;
-  abort_word = omega arith;
-  views_fit = h.views_fit;
-}
-
 -- the task had done nothing yet
 module _ (c : Core) (seat task : ℕ) (is : IsSeat c.views seat (begins task)) (sound : IsSound c) where
   behind_same : (test : Act → Bool) (t : ℕ) → number_behind c.graph c.views test t ≡ number_behind c.graph (slice_set c.views seat view.Halted) test t
@@ -99,37 +79,19 @@ module _ (c : Core) (seat task : ℕ) (is : IsSeat c.views seat (begins task)) (
       let seats = sum_same c.views seat (begins task) view.Halted is seats_of refl in
       let tickets = left_alone c seat task 0 view.Halted is sound (λ t. refl) (λ p. refl) in
       let fewer = fewer_run c seat task 0 view.Halted is sound (λ t. refl) (λ p. refl) in
-      record {
-        graph = sound.graph;
-        shapes = shapes_aborted c.graph c.ring c.dep c.published c.left c.turn c.home c.abort _ (shapes_seat c.graph c.ring c.dep c.published c.left c.turn c.home c.abort c.views seat view.Halted refl sound.shapes);
-        tickets = record {
-          below = λ p some. sound.tickets.below p (omega (arith, tickets p));
-          apart = λ p. omega (arith, tickets p, sound.tickets.apart p);
-        };
-        ring = work.ring;
+      let shapes = shapes_seat c.graph c.ring c.dep c.published c.left c.turn c.home c.abort c.views seat view.Halted refl sound.shapes in
+      sound_of (record c { abort = 1 }) (slice_set c.views seat view.Halted) sound.graph (work_as c c.head 1 (slice_set c.views seat view.Halted) work) (record {
+        shapes = shapes_as c (record c { abort = 1 }) (slice_set c.views seat view.Halted) refl refl refl refl refl refl shapes.published_words shapes.turn_words (omega arith) shapes;
+        tickets = fewer_tickets c.graph c.head (holders c.views) (holders (slice_set c.views seat view.Halted)) (λ p. omega (arith, tickets p)) sound.tickets;
         running = record {
           drawn = λ t lt some. let was = sound.running.drawn t lt (omega (arith, fewer t)) in (was.0, was.1, was.2, tickets was.0 ∙ was.3);
           apart = λ t. omega (arith, fewer t, sound.running.apart t);
           told = λ t some. sound.running.told t (omega (arith, fewer t)) ∙ behind_same publishes t;
         };
-        dependencies = work.dependencies;
-        uses = work.uses;
-        slots = work.slots;
-        done = work.done;
-        head = record { drawn = omega (arith, gone, sound.head.drawn); all = seats ∙ (sound.head.all ∙ sym (length-set c.views seat view.Halted)) };
+        head = head_stays c (slice_set c.views seat view.Halted) gone seats (length-set c.views seat view.Halted) sound;
         nothing_lost = record {
           aborted = (λ _. omega (arith, halted), λ _. refl);
           ended = λ some. sound.nothing_lost.ended (omega (arith, gone));
           begun = λ p lt room. inr (inr refl);
         };
-      }
-
--- a list of numbers has what passes a test that filters it
-pub has_filtered : (test : ℕ → Bool) (xs : List ℕ) (n : ℕ) → test n ≡ true → has (filter test xs) n ≡ has xs n
-has_filtered test [] n met = refl
-has_filtered test (x ∷ xs) n met = by_test (cases_Bool (test x)) (has_filtered test xs n met) where
-  by_test : (test x ≡ true) ⊎ (test x ≡ false) → has (filter test xs) n ≡ has xs n → has (filter test (x ∷ xs)) n ≡ has (x ∷ xs) n
-  by_test (inl passes) rest = rw passes (ap (λ (b : Bool). (x == n) || b) rest)
-  by_test (inr fails) rest =
-      let other : x ≢ n = λ e. false≢true (sym fails ∙ (ap test e ∙ met)) in
-      rw fails (rest ∙ ap (λ (b : Bool). b || has xs n) (sym (ne_eqb x n other)))
+      })

@@ -1,13 +1,12 @@
 -- Counts that hold all there is or nothing.
 use Rattle.std.proofs.Common.{◌≡◌, ◌∙◌, ◌<◌, ℕ, zero, suc, Bool, true, false, cond, ◌⊎◌, inl, inr, List, [], ◌∷◌, refl, subst, arith}
 use Rattle.std.specs.Prelude.{All}
-use Rattle.std.specs.List.{count_by, list_any, range_with_len}
+use Rattle.std.specs.List.{count_by, range_with_len}
 use Rattle.std.proofs.lemmas.Bool.{cases_Bool, cases_eq}
-use Rattle.std.proofs.lemmas.List.Elements.{All-head, All-tail, All-weaker}
-use Rattle.std.proofs.lemmas.List.Folds.{list_any_none}
+use Rattle.std.proofs.lemmas.List.Elements.{All-head, All-tail}
 use Rattle.std.proofs.lemmas.List.Sums.{sum_by-cons}
-use Rattle.graph_types.specs.Counting.{all_below, count_within}
-use Rattle.sched_core.proofs.Lists.{number_true, number_false, below_push, counts_alike}
+use Rattle.graph_types.specs.Counting.{count_alike, count_suc, count_within}
+use Rattle.sched_core.proofs.Lists.{number_true, number_false}
 use Rattle.sched_core.proofs.SoundSums.{sum_zero}
 
 -- a test that holds as often as there are numbers holds of each
@@ -15,18 +14,15 @@ pub counts_each : (test : ℕ → Bool) (n k : ℕ) → k < n → count_by test 
 counts_each test zero k lt full = absurd (omega arith)
 counts_each test (suc n) k lt full = by_test (cases_Bool (test n)) (counts_each test n k) where
   by_test : (test n ≡ true) ⊎ (test n ≡ false) → (k < n → count_by test (range_with_len 0 n) ≡ n → test k ≡ true) → test k ≡ true
-  by_test (inr unmet) before = absurd (omega (arith, below_push test n, number_false (test n) unmet, count_within test n, full))
+  by_test (inr unmet) before = absurd (omega (arith, count_suc test n, number_false (test n) unmet, count_within test n, full))
   by_test (inl met) before = by_number (cases_eq n k) where
     by_number : (n ≡ k) ⊎ (n ≡ k → ⊥) → test k ≡ true
     by_number (inl e) = subst (λ (m : ℕ). test m ≡ true) e met
-    by_number (inr other) = before (omega (arith, lt, other)) (omega (arith, below_push test n, number_true (test n) met, full))
+    by_number (inr other) = before (omega (arith, lt, other)) (omega (arith, count_suc test n, number_true (test n) met, full))
 
 -- a test that no number passes
 pub counts_never : (test : ℕ → Bool) (n : ℕ) → ((k : ℕ) → k < n → test k ≡ false) → count_by test (range_with_len 0 n) ≡ 0
-counts_never test n never = counts_alike test (λ k. false) n never ∙ sum_zero (range_with_len 0 n)
-
-pub any_never : (test : ℕ → Bool) (n : ℕ) → ((k : ℕ) → k < n → test k ≡ false) → list_any test (range_with_len 0 n) ≡ false
-any_never test n never = list_any_none test (range_with_len 0 n) (All-weaker (λ k. k < n) (λ k. test k ≡ false) never (range_with_len 0 n) (all_below n))
+counts_never test n never = count_alike test (λ k. false) n never ∙ sum_zero (range_with_len 0 n)
 
 -- a test that no element passes
 pub counts_none : {A : Type 0} (test : A → Bool) (xs : List A) → All (λ x. test x ≡ false) xs → count_by test xs ≡ 0

@@ -4,9 +4,9 @@ use Rattle.std.specs.Prelude.{◌==◌, ◌&&◌, slice_index, slice_index_or}
 use Rattle.std.specs.List.{count_by, sum_by}
 use Rattle.std.proofs.lemmas.Bool.{false≢true, cases_lt, eq-eqb, and_from, and_parts, and_right}
 use Rattle.std.proofs.lemmas.List.{get_or_past}
-use Rattle.std.proofs.lemmas.List.Elements.{All-get_or, All-weaker}
+use Rattle.std.proofs.lemmas.List.Elements.{All-get_or}
 use Rattle.std.proofs.lemmas.List.Sums.{sum_by-le-sum_by, get_or-le-sum_by}
-use Rattle.graph_types.specs.Counting.{all_below, count_within}
+use Rattle.graph_types.specs.Counting.{count_one, count_within}
 use Rattle.graph_types.specs.Graph.{tasks_of}
 use Rattle.sched_core.specs.declared.view.View.{View}
 use Rattle.sched_core.specs.declared.view.View.TheVariants as view
@@ -14,7 +14,7 @@ use Rattle.sched_core.specs.declared.state.Core.{Core}
 use Rattle.sched_core.specs.Core.{holds, holders, runs, runners, is_finished, gone_of, halted_of, seats_of, view_of}
 use Rattle.sched_core.specs.Sound.{number_in, HasBegun, IsSound}
 use Rattle.sched_core.specs.Ends.{is_at_work, DrawnIsDone, AllGoneIsDone}
-use Rattle.sched_core.proofs.Lists.{number_le, counts_one}
+use Rattle.sched_core.proofs.Lists.{number_le, each_below}
 use Rattle.sched_core.proofs.Facts.{one_or_less, is_task}
 use Rattle.sched_core.proofs.SoundSums.{sum_add, sum_swap, sum_less, sum_at_least, sum_front}
 use Rattle.sched_core.proofs.EndsCounts.{counts_none}
@@ -60,7 +60,7 @@ module _ (c : Core) (sound : IsSound c) (drawn : c.graph.tasks ≤ c.head) (idle
     by_begun (inr (inr aborted)) = absurd (let halted = sound.nothing_lost.aborted.0 aborted in omega (arith, halted, none_halted))
     by_begun (inr (inl (task, is, some))) =
         let below = is_task c sound place task is in
-        counts_one (λ t. (slice_index c.ring place == t + 1) && finished t) c.graph.tasks task below
+        count_one (λ t. (slice_index c.ring place == t + 1) && finished t) c.graph.tasks task below
         (and_from (slice_index c.ring place == task + 1) (finished task) (eq-eqb _ _ is) (is_done task below (omega (arith, some, no_runner task))))
 
   -- a finished task stands in the ring once at most
@@ -82,7 +82,7 @@ module _ (c : Core) (sound : IsSound c) (drawn : c.graph.tasks ≤ c.head) (idle
       sum_swap (λ word t. cond ((word == t + 1) && finished t) 1 0) c.ring (tasks_of c.graph) in
       let less =
       sum_less (λ t. count_by (λ word. (word == t + 1) && finished t) c.ring) (λ t. cond (finished t) 1 0) (tasks_of c.graph)
-      (All-weaker (λ t. t < c.graph.tasks) (λ t. count_by (λ word. (word == t + 1) && finished t) c.ring ≤ cond (finished t) 1 0) once_finished (tasks_of c.graph) (all_below c.graph.tasks)) in
+      (each_below (λ t. count_by (λ word. (word == t + 1) && finished t) c.ring ≤ cond (finished t) 1 0) c.graph.tasks once_finished) in
       omega (arith, swapped, less)
 
   done_all : c.done ≡ c.graph.tasks

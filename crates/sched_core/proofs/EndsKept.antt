@@ -1,7 +1,7 @@
 -- Where all tasks are done, the values that are home are those of the slots that are kept.
 use Rattle.std.proofs.Common.{◌≡◌, ◌∙◌, ◌<◌, ℕ, Bool, true, false, cond, sym, refl, arith}
 use Rattle.std.specs.Prelude.{◌==◌, ◌&&◌, ◌||◌, not, slice_index, slice_index_or}
-use Rattle.std.proofs.lemmas.Bool.{false≢true, ltb-true, eqb-true, eq-eqb, and_parts, and_right, not_from_true, or_left}
+use Rattle.std.proofs.lemmas.Bool.{false≢true, eqb-true, eq-eqb, and_parts, and_right, not_from_true, or_left}
 use Rattle.std.proofs.lemmas.List.Elements.{All-from_get_or}
 use Rattle.graph_types.specs.Graph.{reads, writes, is_kept}
 use Rattle.sched_core.specs.declared.act.Act.{Act}
@@ -12,10 +12,11 @@ use Rattle.sched_core.specs.declared.state.Core.{Core}
 use Rattle.sched_core.specs.Core.{runs, runners, is_at, number_at, is_finished, is_behind, is_scrub, is_anything, closes, lowers_use, view_of}
 use Rattle.sched_core.specs.Sound.{is_unwritten, SlotStands, Unwritten, Free, Held, Last, Scrubbed, IsSound}
 use Rattle.sched_core.specs.Ends.{DoneLeavesTheKept}
+use Rattle.sched_core.proofs.Lists.{none_below}
 use Rattle.sched_core.proofs.Seats.{IsSeat, count_at_least}
-use Rattle.sched_core.proofs.Facts.{seat_fits}
+use Rattle.sched_core.proofs.Facts.{runs_task}
 use Rattle.sched_core.proofs.Quiet.{is_running, at_none}
-use Rattle.sched_core.proofs.EndsCounts.{counts_each, counts_never, any_never, counts_none}
+use Rattle.sched_core.proofs.EndsCounts.{counts_each, counts_never, counts_none}
 
 -- what is home, by how the slot stands, where all that write it have published and nobody closes or scrubs it
 kept_by : (left : ℕ) (home kept : Bool) (unwritten : Bool) (turn closing scrubbing : ℕ) → left ≡ cond kept 1 0 → unwritten ≡ false → closing ≡ 0 → scrubbing ≡ 0 → SlotStands unwritten left turn home closing scrubbing → home ≡ kept
@@ -40,8 +41,7 @@ module _ (c : Core) (sound : IsSound c) (done : c.done ≡ c.graph.tasks) where
   quiet : (seat : ℕ) (v : View) → IsSeat c.views seat v → is_running v ≡ false
   unfolding is_running
   quiet seat (view.Running task at owed) is =
-      let fits = seat_fits c sound seat (view.Running task at owed) is in
-      let below : task < c.graph.tasks = ltb-true _ _ (and_parts _ _ fits).0 in
+      let below = runs_task c sound seat task at owed is in
       let some = count_at_least c.views seat (view.Running task at owed) view.Idle is (runs task) (eq-eqb task task refl) in
       absurd (omega (arith, some, no_runner task below))
   quiet seat _ is = refl
@@ -54,7 +54,7 @@ module _ (c : Core) (sound : IsSound c) (done : c.done ≡ c.graph.tasks) where
 
   all_written : (slot : ℕ) → is_unwritten c.graph c.published slot ≡ false
   all_written slot =
-      any_never (λ task. writes c.graph task slot && not (slice_index c.published task == 1)) c.graph.tasks
+      none_below (λ task. writes c.graph task slot && not (slice_index c.published task == 1)) c.graph.tasks
       (λ task lt. and_right (writes c.graph task slot) (not (slice_index c.published task == 1)) (not_from_true _ (published_is task lt)))
 
   behind : (task slot : ℕ) → task < c.graph.tasks → is_behind c.graph c.published c.views (lowers_use slot) task ≡ true

@@ -1,23 +1,20 @@
 -- What a sound state says of one seat, one task, one place.
 use Rattle.std.proofs.Common.{◌≡◌, ◌≤◌, ◌<◌, ◌+◌, ℕ, Bool, true, false, cond, ◌⊎◌, inl, inr, List, length, ap, refl, subst, arith}
-use Rattle.std.specs.Prelude.{◌==◌, ◌&&◌, slice_index, IsTrue}
-use Rattle.std.proofs.lemmas.Bool.{cases_eq, cases_lt, false≢true, eq-eqb, ne_eqb, and_right}
+use Rattle.std.specs.Prelude.{◌==◌, ◌&&◌, slice_get, slice_index, IsTrue}
+use Rattle.std.proofs.lemmas.Bool.{cases_eq, cases_lt, false≢true, eq-eqb, ne_eqb, ltb-true, lt-ltb, and_from, and_parts, and_right}
 use Rattle.std.proofs.lemmas.List.{get_or_past}
 use Rattle.std.proofs.lemmas.List.Sums.{sum_by-le-sum_by}
 use Rattle.std.proofs.lemmas.List.Elements.{All-get_or}
 use Rattle.graph_types.specs.declared.graph.Graph.{Graph}
 use Rattle.sched_core.specs.declared.act.Act.{Act}
+use Rattle.sched_core.specs.declared.view.Due.{Due}
 use Rattle.sched_core.specs.declared.view.View.{View}
 use Rattle.sched_core.specs.declared.view.View.TheVariants as view
 use Rattle.sched_core.specs.declared.state.Core.{Core}
-use Rattle.sched_core.specs.Core.{holders, runners, runs, has_behind, number_behind, is_finished}
-use Rattle.sched_core.specs.Sound.{is_in_shape, IsFilled, IsDrawn, IsSound}
+use Rattle.sched_core.specs.Core.{script, holders, runners, runs, has_behind, number_behind, is_finished}
+use Rattle.sched_core.specs.Sound.{may_owe, is_in_shape, IsFilled, IsDrawn, IsSound}
 use Rattle.sched_core.proofs.Lists.{one_place, number_le}
 use Rattle.sched_core.proofs.Seats.{IsSeat}
-
-false_falls : (a b : Bool) → (a && b) ≡ true → a ≡ true
-false_falls true b h = refl
-false_falls false b h = absurd (false≢true h)
 
 pub one_or_less : (a b : Bool) → (b ≡ true → a ≡ true) → cond b 1 0 ≤ cond a 1 0
 one_or_less true true h = omega arith
@@ -29,7 +26,7 @@ one_or_less false false h = omega arith
 pub behind_runs : (g : Graph) (views : List View) (test : Act → Bool) (task : ℕ) → number_behind g views test task ≤ runners views task
 behind_runs g views test task = sum_by-le-sum_by (λ v. cond (has_behind g test task v) 1 0) (λ v. cond (runs task v) 1 0) views each where
   runs_too : (v : View) → has_behind g test task v ≡ true → runs task v ≡ true
-  runs_too (view.Running t at owed) h = false_falls (t == task) _ h
+  runs_too (view.Running t at owed) h = (and_parts (t == task) _ h).0
   runs_too _ h = absurd (false≢true h)
 
   each : (v : View) → cond (has_behind g test task v) 1 0 ≤ cond (runs task v) 1 0
@@ -51,6 +48,13 @@ still_runs published views task some = and_right (slice_index published task == 
 module _ (c : Core) (sound : IsSound c) where
   pub seat_fits : (seat : ℕ) (v : View) → IsSeat c.views seat v → is_in_shape c.graph v ≡ true
   seat_fits seat v is = subst (λ (x : View). is_in_shape c.graph x ≡ true) is.was (All-get_or (λ (x : View). IsTrue (is_in_shape c.graph x)) c.views seat view.Spent is.within sound.shapes.views_fit)
+
+  -- a running seat runs a task, and fits at each place of its script where what it owes may be due
+  pub runs_task : (seat task at : ℕ) (owed : Due) → IsSeat c.views seat (view.Running task at owed) → task < c.graph.tasks
+  runs_task seat task at owed is = ltb-true _ _ (and_parts _ _ (seat_fits seat (view.Running task at owed) is)).0
+
+  pub fits_there : (seat task at at' : ℕ) (owed owed' : Due) → IsSeat c.views seat (view.Running task at owed) → may_owe owed' (slice_get (script c.graph task) at') ≡ true → is_in_shape c.graph (view.Running task at' owed') ≡ true
+  fits_there seat task at at' owed owed' is may = and_from _ _ (lt-ltb _ _ (runs_task seat task at owed is)) may
 
   -- a task stands at one place of the ring
   pub place_is : (task place other : ℕ) → task < c.graph.tasks → slice_index c.ring place ≡ task + 1 → slice_index c.ring other ≡ task + 1 → other ≡ place

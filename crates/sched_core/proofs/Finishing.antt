@@ -1,50 +1,28 @@
 -- A seat that finishes its task leaves a sound state.
-use Rattle.std.proofs.Common.{◌≡◌, ◌∙◌, ◌≢◌, ◌≤◌, ◌<◌, ◌+◌, ◌↔◌, ℕ, zero, suc, Bool, true, false, cond, not, Some, ◌⊎◌, inl, inr, List, [], ◌∷◌, ◌++◌, take, ap, sym, refl, subst, arith, length-set}
+use Rattle.std.proofs.Common.{◌≡◌, ◌∙◌, ◌≢◌, ◌≤◌, ◌<◌, ◌+◌, ℕ, Bool, true, false, cond, not, Some, ◌⊎◌, inl, inr, take, ap, sym, refl, subst, arith, length-set}
 use Rattle.std.specs.Prelude.{◌==◌, ◌&&◌, ◌||◌, nat_lt, slice_get, slice_set, slice_index}
-use Rattle.std.specs.List.{count_by, list_any, range_with_len}
-use Rattle.std.proofs.lemmas.Bool.{cases_eq, eq-eqb, lt-ltb, ltb-true, and_from, and_parts, or_left, or_right}
-use Rattle.std.proofs.lemmas.List.Folds.{list_any-append}
-use Rattle.graph_types.specs.Graph.{tasks_of, reads, writes, follows, has, is_kept}
+use Rattle.std.specs.List.{count_by, list_any}
+use Rattle.std.proofs.lemmas.Bool.{cases_eq, eq-eqb, lt-ltb, and_from, or_left, or_right}
+use Rattle.graph_types.specs.Counting.{count_alike}
+use Rattle.graph_types.specs.Facts.{follower_listed}
+use Rattle.graph_types.specs.Graph.{tasks_of, reads, writes, follows, is_kept}
 use Rattle.sched_core.specs.declared.act.Act.{Act}
 use Rattle.sched_core.specs.declared.act.Act.TheVariants as act
 use Rattle.sched_core.specs.declared.view.Due.TheVariants as due
 use Rattle.sched_core.specs.declared.view.View.TheVariants as view
 use Rattle.sched_core.specs.declared.state.Core.{Core}
 use Rattle.sched_core.specs.Core.{script, holders, runners, act_passes, has_behind, number_behind, is_finished, is_behind, closes, publishes, lowers_use, lowers_successor, gone_of, halted_of, seats_of}
-use Rattle.sched_core.specs.Sound.{HasBegun, IsSound, is_unwritten}
-use Rattle.sched_core.proofs.Lists.{counts_alike, counts_but_one, range_push}
+use Rattle.sched_core.specs.Sound.{IsSound, is_unwritten}
+use Rattle.sched_core.proofs.Lists.{counts_but_one}
 use Rattle.sched_core.proofs.Seats.{IsSeat, count_at_least, sum_same}
-use Rattle.sched_core.proofs.Frames.{SameDues, ring_framed, slots_framed}
-use Rattle.sched_core.proofs.Quiet.{shapes_seat}
+use Rattle.sched_core.proofs.Frames.{SameDues, ring_framed, slots_framed, shapes_seat, sound_of, fewer_tickets, head_stays, begun_still, lost_none}
 use Rattle.sched_core.proofs.Scripts.{behind_end, body, body_publishes, body_uses, body_successors}
-use Rattle.sched_core.proofs.Facts.{behind_runs, still_runs, seat_fits}
-use Rattle.sched_core.proofs.Ending.{left_alone, fewer_run, one_ran, none_runs, others_run, others_behind, dues_left, has_filtered}
-
-or_end : (b : Bool) → (b || true) ≡ true
-or_end true = refl
-or_end false = refl
-
-or_next : (a b : Bool) → a ≡ true → (a || b) ≡ true
-or_next a b h = ap (λ (x : Bool). x || b) h
-
--- a number below a bound is among the numbers below it
-has_range : (n k : ℕ) → k < n → has (range_with_len 0 n) k ≡ true
-has_range zero k lt = absurd (omega arith)
-has_range (suc n) k lt = by_order (cases_eq n k) (λ less. has_range n k less) where
-  pushed : has (range_with_len 0 (suc n)) k ≡ (has (range_with_len 0 n) k || ((n == k) || false))
-  pushed =
-      ap (λ (m : ℕ). has (range_with_len 0 m) k) (let e : suc n ≡ n + 1 = omega arith in e)
-      ∙ ap (λ (xs : List ℕ). has xs k) (range_push 0 n)
-      ∙ ap (λ (m : ℕ). has (range_with_len 0 n ++ m ∷ []) k) (let e : 0 + n ≡ n = omega arith in e)
-      ∙ list_any-append (λ m. m == k) (range_with_len 0 n) (n ∷ [])
-
-  by_order : (n ≡ k) ⊎ (n ≡ k → ⊥) → (k < n → has (range_with_len 0 n) k ≡ true) → has (range_with_len 0 (suc n)) k ≡ true
-  by_order (inl e) ih = pushed ∙ ap (λ (b : Bool). has (range_with_len 0 n) k || (b || false)) (eq-eqb n k e) ∙ or_end (has (range_with_len 0 n) k)
-  by_order (inr other) ih = pushed ∙ or_next (has (range_with_len 0 n) k) ((n == k) || false) (ih (omega arith))
+use Rattle.sched_core.proofs.Facts.{behind_runs, still_runs, runs_task}
+use Rattle.sched_core.proofs.Ending.{left_alone, fewer_run, one_ran, none_runs, others_run, others_behind, dues_left}
 
 module _ (c : Core) (seat task at : ℕ) (is : IsSeat c.views seat (view.Running task at due.Nothing)) (last : slice_get (script c.graph task) at ≡ Some act.Finishes) (sound : IsSound c) where
   below : task < c.graph.tasks
-  below = ltb-true _ _ (and_parts _ _ (seat_fits c sound seat (view.Running task at due.Nothing) is)).0
+  below = runs_task c sound seat task at due.Nothing is
 
   front : take at (script c.graph task) ≡ body c.graph task
   front = behind_end c.graph task at last
@@ -86,11 +64,7 @@ module _ (c : Core) (seat task at : ℕ) (is : IsSeat c.views seat (view.Running
       ap not (before ∙ sym now)
 
   follows_in_body : (successor : ℕ) → successor < c.graph.tasks → follows c.graph task successor ≡ true → list_any (lowers_successor successor) (body c.graph task) ≡ true
-  follows_in_body successor lt h =
-      body_successors c.graph task successor
-      ∙ ap (λ (xs : List ℕ). has xs successor) (sound.graph.order.successors task below)
-      ∙ has_filtered (follows c.graph task) (tasks_of c.graph) successor h
-      ∙ has_range c.graph.tasks successor lt
+  follows_in_body successor lt h = body_successors c.graph task successor ∙ follower_listed c.graph sound.graph.order task successor below lt h
 
   waits : (successor : ℕ) → successor < c.graph.tasks → (t : ℕ) → (t ≡ task) ⊎ (t ≡ task → ⊥) →
       (follows c.graph t successor && not (is_behind c.graph c.published c.views (lowers_successor successor) t))
@@ -116,14 +90,9 @@ module _ (c : Core) (seat task at : ℕ) (is : IsSeat c.views seat (view.Running
       let more = counts_but_one (is_finished c.published (slice_set c.views seat view.Idle)) (is_finished c.published c.views) c.graph.tasks task below finished_now unfinished (λ t lt other. finished_other t other) in
       omega (arith, more, sound.done.count)
 
-  still : (place : ℕ) → (1 ≤ holders c.views place) ⊎ (HasBegun (slice_index c.ring place) c.published (runners c.views) ⊎ (c.abort ≡ 1)) →
-      (1 ≤ holders (slice_set c.views seat view.Idle) place) ⊎ (HasBegun (slice_index c.ring place) c.published (runners (slice_set c.views seat view.Idle)) ⊎ (c.abort ≡ 1))
-  still place (inl held) = inl (omega (arith, left_alone c seat task at view.Idle is sound (λ t. refl) (λ p. refl) place))
-  still place (inr (inl (t, there, some))) = inr (inl (t, there, begun (cases_eq t task))) where
-    begun : (t ≡ task) ⊎ (t ≡ task → ⊥) → 1 ≤ runners (slice_set c.views seat view.Idle) t + slice_index c.published t
-    begun (inl e) = let one : slice_index c.published t ≡ 1 = ap (slice_index c.published) e ∙ read in omega arith
-    begun (inr other) = omega (arith, others_run c seat task at view.Idle is sound (λ u. refl) (λ p. refl) t other)
-  still place (inr (inr aborted)) = inr (inr aborted)
+  begun : (t : ℕ) → (t ≡ task) ⊎ (t ≡ task → ⊥) → 1 ≤ runners c.views t + slice_index c.published t → 1 ≤ runners (slice_set c.views seat view.Idle) t + slice_index c.published t
+  begun t (inl e) some = let one : slice_index c.published t ≡ 1 = ap (slice_index c.published) e ∙ read in omega arith
+  begun t (inr other) some = omega (arith, others_run c seat task at view.Idle is sound (λ u. refl) (λ p. refl) t other)
 
   told : (t : ℕ) → (t ≡ task) ⊎ (t ≡ task → ⊥) → 1 ≤ runners (slice_set c.views seat view.Idle) t → slice_index c.published t ≡ number_behind c.graph (slice_set c.views seat view.Idle) publishes t
   told t (inl e) some = absurd (let none : runners (slice_set c.views seat view.Idle) t ≡ 0 = ap (runners (slice_set c.views seat view.Idle)) e ∙ none_left in omega arith)
@@ -138,27 +107,21 @@ module _ (c : Core) (seat task at : ℕ) (is : IsSeat c.views seat (view.Running
       let seats = sum_same c.views seat (view.Running task at due.Nothing) view.Idle is seats_of refl in
       let tickets = left_alone c seat task at view.Idle is sound (λ t. refl) (λ p. refl) in
       let fewer = fewer_run c seat task at view.Idle is sound (λ t. refl) (λ p. refl) in
-      record {
-        graph = sound.graph;
-        shapes = shapes_seat c.graph c.ring c.dep c.published c.left c.turn c.home c.abort c.views seat view.Idle refl sound.shapes;
-        tickets = record {
-          below = λ p some. sound.tickets.below p (omega (arith, tickets p));
-          apart = λ p. omega (arith, tickets p, sound.tickets.apart p);
-        };
+      sound_of (record c { done = c.done + 1 }) (slice_set c.views seat view.Idle) sound.graph (record {
         ring = ring_framed c.graph c.tail c.ring c.dep c.views (slice_set c.views seat view.Idle) dues sound.ring;
+        dependencies = record { counts = λ successor lt. sound.dependencies.counts successor lt ∙ count_alike _ _ c.graph.tasks (λ t within. waits successor lt t (cases_eq t task)) };
+        uses = record { counts = λ slot lt. sound.uses.counts slot lt ∙ ap (λ (n : ℕ). n + cond (is_kept c.graph slot) 1 0) (count_alike _ _ c.graph.tasks (λ t within. takes_use slot t (cases_eq t task))) };
+        slots = slots_framed c.graph c.left c.turn c.home (is_unwritten c.graph c.published) c.views (slice_set c.views seat view.Idle) dues sound.slots;
+        done = record { count = done_more };
+      }) (record {
+        shapes = shapes_seat c.graph c.ring c.dep c.published c.left c.turn c.home c.abort c.views seat view.Idle refl sound.shapes;
+        tickets = fewer_tickets c.graph c.head (holders c.views) (holders (slice_set c.views seat view.Idle)) (λ p. omega (arith, tickets p)) sound.tickets;
         running = record {
           drawn = λ t lt some. let was = sound.running.drawn t lt (omega (arith, fewer t)) in (was.0, was.1, was.2, tickets was.0 ∙ was.3);
           apart = λ t. omega (arith, fewer t, sound.running.apart t);
           told = λ t some. told t (cases_eq t task) some;
         };
-        dependencies = record { counts = λ successor lt. sound.dependencies.counts successor lt ∙ counts_alike _ _ c.graph.tasks (λ t within. waits successor lt t (cases_eq t task)) };
-        uses = record { counts = λ slot lt. sound.uses.counts slot lt ∙ ap (λ (n : ℕ). n + cond (is_kept c.graph slot) 1 0) (counts_alike _ _ c.graph.tasks (λ t within. takes_use slot t (cases_eq t task))) };
-        slots = slots_framed c.graph c.left c.turn c.home (is_unwritten c.graph c.published) c.views (slice_set c.views seat view.Idle) dues sound.slots;
-        done = record { count = done_more };
-        head = record { drawn = omega (arith, gone, sound.head.drawn); all = seats ∙ (sound.head.all ∙ sym (length-set c.views seat view.Idle)) };
-        nothing_lost = record {
-          aborted = subst (λ (n : ℕ). (c.abort ≡ 1) ↔ (1 ≤ n)) (sym halted) sound.nothing_lost.aborted;
-          ended = λ some. sound.nothing_lost.ended (omega (arith, gone));
-          begun = λ p lt room. still p (sound.nothing_lost.begun p lt room);
-        };
-      }
+        head = head_stays c (slice_set c.views seat view.Idle) gone seats (length-set c.views seat view.Idle) sound;
+        nothing_lost = lost_none c (slice_set c.views seat view.Idle) gone halted (λ p lt room. begun_still (slice_index c.ring p) c.abort c.published c.published (holders c.views p) (holders (slice_set c.views seat view.Idle) p) (runners c.views) (runners (slice_set c.views seat view.Idle))
+            (λ some. omega (arith, tickets p)) (λ t there. begun t (cases_eq t task)) (sound.nothing_lost.begun p lt room)) sound;
+      })

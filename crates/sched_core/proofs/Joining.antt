@@ -9,7 +9,8 @@ use Rattle.sched_core.specs.Core.{holds, publishes, gone_of, halted_of, seats_of
 use Rattle.sched_core.specs.Step.{closed, with_view}
 use Rattle.sched_core.specs.Sound.{IsSound}
 use Rattle.sched_core.proofs.Seats.{IsSeat, seat_of, count_same, summed}
-use Rattle.sched_core.proofs.Quiet.{is_running, shapes_seat, quiet_runners, quiet_behind, quiet_dues, quiet_same, work_framed, work_of}
+use Rattle.sched_core.proofs.Frames.{shapes_seat, work_framed, work_of}
+use Rattle.sched_core.proofs.Quiet.{is_running, quiet_runners, quiet_behind, quiet_dues, quiet_same}
 use Rattle.sched_core.proofs.Closing.{same_numbers}
 
 -- what a view that draws no more stands for

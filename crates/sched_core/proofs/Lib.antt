@@ -21,6 +21,7 @@ pub mod Going
 pub mod Turning
 pub mod ClosingSlots
 pub mod Once
+pub mod Lowering
 pub mod LoweringDeps
 pub mod Putting
 pub mod Unwritten
@@ -29,7 +30,6 @@ pub mod GraphSteps
 pub mod StartSound
 pub mod OpeningSlots
 pub mod SoundReads
-pub mod SoundMoves
 pub mod SoundClosers
 pub mod SoundLowerUse
 pub mod SoundSums

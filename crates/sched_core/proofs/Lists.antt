@@ -1,11 +1,14 @@
--- Elements of lists by their place.
-use Rattle.std.proofs.Common.{◌≡◌, ◌∙◌, ◌≤◌, ◌<◌, ◌+◌, ℕ, zero, suc, List, [], ◌∷◌, ◌++◌, Option, None, length, get_or, ap, sym, refl, arith}
-use Rattle.std.specs.Prelude.{slice_get, slice_index_or, unwrap_or}
-use Rattle.std.proofs.Common.{Bool, true, false, cond, ◌⊎◌, inl, inr, subst}
-use Rattle.std.specs.List.{count_by, range_with_len}
-use Rattle.std.proofs.lemmas.Option.{unwrap_or-slice_get}
-use Rattle.std.proofs.lemmas.List.Sums.{sum_by_push, sum_by-cons, get_or-le-sum_by}
+-- Elements of lists by their place, and counts of the numbers below a bound.
+use Rattle.std.proofs.Common.{◌≡◌, ◌∙◌, ◌≤◌, ◌<◌, ◌+◌, ℕ, zero, suc, Bool, true, false, cond, ◌⊎◌, inl, inr, List, [], ◌∷◌, ◌++◌, Option, None, length, get_or, ap, sym, refl, subst, arith, zero-add}
+use Rattle.std.specs.Prelude.{All, slice_get, slice_index_or, unwrap_or}
+use Rattle.std.specs.List.{count_by, list_any, range_with_len}
 use Rattle.std.proofs.lemmas.Bool.{cases_eq}
+use Rattle.std.proofs.lemmas.Option.{unwrap_or-slice_get}
+use Rattle.std.proofs.lemmas.List.Elements.{All-weaker}
+use Rattle.std.proofs.lemmas.List.Folds.{Any-from_list_any, list_any_at, list_any_none}
+use Rattle.std.proofs.lemmas.List.FromFn.{get_or-range_with_len, length-range_with_len}
+use Rattle.std.proofs.lemmas.List.Sums.{sum_by-cons, get_or-le-sum_by}
+use Rattle.graph_types.specs.Counting.{all_below, any_alike, count_alike, count_suc}
 
 -- a test as a number, as counts add it
 abbrev pub number : Bool → ℕ
@@ -34,60 +37,42 @@ slice_get-append_past [] ys i j h = ap (slice_get ys) (let e : i ≡ j = omega a
 slice_get-append_past (x ∷ xs) ys zero j h = absurd (omega arith)
 slice_get-append_past (x ∷ xs) ys (suc i) j h = slice_get-append_past xs ys i j (omega arith)
 
-pub range_push : (from n : ℕ) → range_with_len from (n + 1) ≡ range_with_len from n ++ (from + n) ∷ []
-range_push from n = ap (range_with_len from) (let e : n + 1 ≡ suc n = omega arith in e) ∙ pushed from n where
-  pushed : (from n : ℕ) → range_with_len from (suc n) ≡ range_with_len from n ++ (from + n) ∷ []
-  pushed from zero = ap (λ (k : ℕ). k ∷ []) (let e : from ≡ from + 0 = omega arith in e)
-  pushed from (suc n) =
-      ap (λ (ks : List ℕ). from ∷ ks) (pushed (from + 1) n)
-      ∙ ap (λ (k : ℕ). from ∷ (range_with_len (from + 1) n ++ k ∷ [])) (let e : (from + 1) + n ≡ from + suc n = omega arith in e)
+-- Numbers below a bound.
+pub each_below : (P : ℕ → Type 0) (n : ℕ) → ((k : ℕ) → k < n → P k) → All P (range_with_len 0 n)
+each_below P n h = All-weaker (λ k. k < n) P h (range_with_len 0 n) (all_below n)
 
--- Counts of the numbers below a bound.
-pub below_push : (test : ℕ → Bool) (n : ℕ) → count_by test (range_with_len 0 (suc n)) ≡ count_by test (range_with_len 0 n) + cond (test n) 1 0
-below_push test n =
-    ap (λ (k : ℕ). count_by test (range_with_len 0 k)) (let e : suc n ≡ n + 1 = omega arith in e)
-    ∙ ap (count_by test) (range_push 0 n)
-    ∙ ap (λ (k : ℕ). count_by test (range_with_len 0 n ++ k ∷ [])) (let e : 0 + n ≡ n = omega arith in e)
-    ∙ sum_by_push (λ k. cond (test k) 1 0) (range_with_len 0 n) n
+pub any_below : (test : ℕ → Bool) (n k : ℕ) → k < n → test k ≡ true → list_any test (range_with_len 0 n) ≡ true
+any_below test n k lt met =
+    list_any_at test (range_with_len 0 n) k 0 (omega (arith, length-range_with_len 0 n)) (ap test (get_or-range_with_len 0 n k 0 lt ∙ zero-add k) ∙ met)
 
-module _ (p q : ℕ → Bool) where
-  -- tests that are alike on the numbers count alike
-  pub counts_alike : (n : ℕ) → ((k : ℕ) → k < n → p k ≡ q k) → count_by p (range_with_len 0 n) ≡ count_by q (range_with_len 0 n)
-  counts_alike zero h = refl
-  counts_alike (suc n) h =
-      below_push p n
-      ∙ ap (λ (b : Bool). count_by p (range_with_len 0 n) + cond b 1 0) (h n (omega arith))
-      ∙ ap (λ (m : ℕ). m + cond (q n) 1 0) (counts_alike n (λ k lt. h k (omega arith)))
-      ∙ sym (below_push q n)
+pub none_below : (test : ℕ → Bool) (n : ℕ) → ((k : ℕ) → k < n → test k ≡ false) → list_any test (range_with_len 0 n) ≡ false
+none_below test n h = list_any_none test (range_with_len 0 n) (each_below (λ k. test k ≡ false) n h)
 
-  -- tests that are alike but at one number, where one holds and the other does not
-  pub counts_but_one : (n at : ℕ) → at < n → p at ≡ true → q at ≡ false → ((k : ℕ) → k < n → (k ≡ at → ⊥) → p k ≡ q k) → count_by p (range_with_len 0 n) ≡ count_by q (range_with_len 0 n) + 1
-  counts_but_one zero at lt met unmet h = absurd (omega arith)
-  counts_but_one (suc n) at lt met unmet h = by_order (cases_eq n at) (λ less. counts_but_one n at less met unmet (λ k below. h k (omega arith))) where
-    by_order : (n ≡ at) ⊎ (n ≡ at → ⊥) → (at < n → count_by p (range_with_len 0 n) ≡ count_by q (range_with_len 0 n) + 1) → count_by p (range_with_len 0 (suc n)) ≡ count_by q (range_with_len 0 (suc n)) + 1
-    by_order (inl e) ih =
-        let alike = counts_alike n (λ k below. h k (omega arith) (λ is. omega arith)) in
-        let pn : p n ≡ true = subst (λ (k : ℕ). p k ≡ true) (sym e) met in
-        let qn : q n ≡ false = subst (λ (k : ℕ). q k ≡ false) (sym e) unmet in
-        let x = number_true (p n) pn in
-        let y = number_false (q n) qn in
-        omega (arith, below_push p n, below_push q n, alike, x, y)
-    by_order (inr ne) ih =
-        let rest = ih (omega arith) in
-        let same = ap number (h n (omega arith) ne) in
-        omega (arith, below_push p n, below_push q n, rest, same)
+pub alike_below : (p q : ℕ → Bool) (n : ℕ) → ((k : ℕ) → k < n → p k ≡ q k) → list_any p (range_with_len 0 n) ≡ list_any q (range_with_len 0 n)
+alike_below p q n h = any_alike p q (range_with_len 0 n) (each_below (λ k. p k ≡ q k) n h)
 
-pub counts_one : (p : ℕ → Bool) (n at : ℕ) → at < n → p at ≡ true → 1 ≤ count_by p (range_with_len 0 n)
-counts_one p zero at lt met = absurd (omega arith)
-counts_one p (suc n) at lt met = by_order (cases_eq n at) (λ less. counts_one p n at less met) where
-  by_order : (n ≡ at) ⊎ (n ≡ at → ⊥) → (at < n → 1 ≤ count_by p (range_with_len 0 n)) → 1 ≤ count_by p (range_with_len 0 (suc n))
+pub any_found : (test : ℕ → Bool) (n : ℕ) → list_any test (range_with_len 0 n) ≡ true → (k : ℕ) × (k < n) × (test k ≡ true)
+any_found test n h =
+    let found = Any-from_list_any test (range_with_len 0 n) h in
+    let within : found.0 < n = omega (arith, found.2, length-range_with_len 0 n) in
+    (found.1, omega (arith, within, sym found.3 ∙ get_or-range_with_len 0 n found.0 found.1 within), found.4)
+
+-- tests that are alike below a bound but at one number, where one holds and the other does not
+pub counts_but_one : (p q : ℕ → Bool) (n at : ℕ) → at < n → p at ≡ true → q at ≡ false → ((k : ℕ) → k < n → (k ≡ at → ⊥) → p k ≡ q k) → count_by p (range_with_len 0 n) ≡ count_by q (range_with_len 0 n) + 1
+counts_but_one p q zero at lt met unmet h = absurd (omega arith)
+counts_but_one p q (suc n) at lt met unmet h = by_order (cases_eq n at) (λ less. counts_but_one p q n at less met unmet (λ k below. h k (omega arith))) where
+  by_order : (n ≡ at) ⊎ (n ≡ at → ⊥) → (at < n → count_by p (range_with_len 0 n) ≡ count_by q (range_with_len 0 n) + 1) → count_by p (range_with_len 0 (suc n)) ≡ count_by q (range_with_len 0 (suc n)) + 1
   by_order (inl e) ih =
+      let alike = count_alike p q n (λ k below. h k (omega arith) (λ is. omega arith)) in
       let pn : p n ≡ true = subst (λ (k : ℕ). p k ≡ true) (sym e) met in
+      let qn : q n ≡ false = subst (λ (k : ℕ). q k ≡ false) (sym e) unmet in
       let x = number_true (p n) pn in
-      omega (arith, below_push p n, x)
+      let y = number_false (q n) qn in
+      omega (arith, count_suc p n, count_suc q n, alike, x, y)
   by_order (inr ne) ih =
       let rest = ih (omega arith) in
-      omega (arith, below_push p n, rest)
+      let same = ap number (h n (omega arith) ne) in
+      omega (arith, count_suc p n, count_suc q n, rest, same)
 
 -- a test that holds at two places holds twice
 some_in : {A : Type 0} (test : A → Bool) (d x : A) (xs : List A) (j : ℕ) → test x ≡ true → j < length xs → test (get_or xs j d) ≡ true → count_by test (x ∷ xs) ≤ 1 → ⊥

@@ -1,33 +1,29 @@
 -- A seat that publishes what its task wrote leaves a sound state.
-use Rattle.std.proofs.Common.{◌≡◌, ◌∙◌, ◌≢◌, ◌≤◌, ◌<◌, ◌+◌, ◌↔◌, ℕ, zero, suc, Bool, true, false, not, Some, ◌⊎◌, inl, inr, List, [], ◌∷◌, ◌++◌, length, take, get_or, ap, sym, refl, subst, arith, length-set, get_or-set_same, get_or-set_other}
+use Rattle.std.proofs.Common.{◌≡◌, ◌∙◌, ◌≢◌, ◌≤◌, ◌<◌, ◌+◌, ◌↔◌, ℕ, Bool, true, false, not, Some, ◌⊎◌, inl, inr, List, [], ◌∷◌, length, take, ap, sym, refl, subst, arith, length-set, get_or-set_same, get_or-set_other}
 use Rattle.std.specs.Prelude.{◌==◌, ◌&&◌, ◌||◌, slice_get, slice_set, slice_index, slice_index_or}
-use Rattle.std.specs.List.{list_any, range_with_len}
-use Rattle.std.proofs.lemmas.Bool.{cases_eq, cases_lt, cases_Bool, false≢true, eq-eqb, ne_eqb, lt-ltb, ltb-true, and_from, and_left, and_right, and_parts, or_left, or_right}
+use Rattle.std.specs.List.{list_any}
+use Rattle.std.proofs.Math.Bool.{or-true}
+use Rattle.std.proofs.lemmas.Bool.{cases_eq, cases_Bool, false≢true, eq-eqb, ne_eqb, and_from, and_left, and_right, or_left, or_right}
 use Rattle.std.proofs.lemmas.List.Elements.{All-set}
-use Rattle.std.proofs.lemmas.List.FromFn.{get_or-range_with_len, length-range_with_len}
-use Rattle.std.proofs.lemmas.List.Folds.{list_any-append}
-use Rattle.graph_types.specs.Graph.{tasks_of, reads_of, writes_of, reads, writes, writers, has}
+use Rattle.graph_types.specs.Counting.{count_one}
+use Rattle.graph_types.specs.Facts.{only_writer}
+use Rattle.graph_types.specs.Graph.{reads_of, writes_of, reads, writes, has}
 use Rattle.sched_core.specs.declared.act.Act.{Act}
 use Rattle.sched_core.specs.declared.act.Act.TheVariants as act
 use Rattle.sched_core.specs.declared.view.Due.TheVariants as due
 use Rattle.sched_core.specs.declared.view.View.TheVariants as view
 use Rattle.sched_core.specs.declared.state.Core.{Core}
 use Rattle.std.specs.List.{flat_map}
-use Rattle.sched_core.specs.Core.{reading, script, holds, holders, runners, number_at, number_behind, is_behind, is_scrub, is_anything, closes, publishes, lowers_use, lowers_successor, gone_of, halted_of, seats_of}
+use Rattle.sched_core.specs.Core.{reading, script, act_passes, holds, holders, runners, number_at, number_behind, is_behind, is_scrub, is_put_at, is_in_hand, is_anything, closes, publishes, lowers_use, lowers_successor, gone_of, halted_of, seats_of}
 use Rattle.sched_core.specs.Step.{marked}
-use Rattle.sched_core.specs.Sound.{SlotStands, Unwritten, Free, Held, Last, Scrubbed, HasBegun, IsSound, is_unwritten, may_owe}
-use Rattle.sched_core.proofs.Lists.{number, counts_one, one_place, range_push}
+use Rattle.sched_core.specs.Sound.{SlotStands, Unwritten, Free, Held, Last, Scrubbed, IsSound, is_unwritten, may_owe}
+use Rattle.sched_core.proofs.Lists.{number, any_below, alike_below, none_below}
 use Rattle.sched_core.proofs.Seats.{IsSeat, count_same, sum_same}
-use Rattle.sched_core.proofs.Frames.{SameDues, SameBehind, ring_framed, slots_framed, dependencies_framed, uses_framed, done_framed}
-use Rattle.sched_core.proofs.Quiet.{shapes_seat}
-use Rattle.sched_core.proofs.Scripts.{reads_lower_no_use}
-use Rattle.sched_core.proofs.Facts.{seat_fits}
-use Rattle.sched_core.proofs.Progress.{behind_publish, no_publish_reading, next_exists, no_close_next, opens}
-use Rattle.sched_core.proofs.Moving.{runs_before, runners_stay, number_was, number_is, number_else, behind_was, finished_stay, number_goes, dues_go, one_more}
-
-or_end : (b : Bool) → (b || true) ≡ true
-or_end true = refl
-or_end false = refl
+use Rattle.sched_core.proofs.Frames.{SameDues, SameBehind, ring_framed, slots_framed, dependencies_framed, uses_framed, done_framed, shapes_seat, shapes_as, sound_of, fewer_tickets, head_stays, begun_still}
+use Rattle.sched_core.proofs.Scripts.{reads_lower_no_use, behind_publish, no_publish_reading}
+use Rattle.sched_core.proofs.Facts.{runs_task, fits_there}
+use Rattle.sched_core.proofs.Progress.{next_exists, no_close_next, opens}
+use Rattle.sched_core.proofs.Moving.{runs_before, runners_stay, number_was, number_is, number_else, behind_was, kept_behind, undue, closing_same, one_more, goes}
 
 -- marks on a list of slots
 pub length_marked : (slots : List ℕ) (marks : List Bool) (mark : Bool) → length (marked marks slots mark) ≡ length marks
@@ -40,45 +36,15 @@ marked_at (s ∷ slots) marks slot lt = marked_at slots (slice_set marks s true)
   first : (s ≡ slot) ⊎ (s ≡ slot → ⊥) → (has slots slot || slice_index_or (slice_set marks s true) slot false) ≡ (((s == slot) || has slots slot) || slice_index_or marks slot false)
   first (inl e) =
       ap (λ (b : Bool). has slots slot || b) (ap (λ (k : ℕ). slice_index_or (slice_set marks k true) slot false) e ∙ get_or-set_same marks slot true false lt)
-      ∙ or_end (has slots slot)
+      ∙ or-true (has slots slot)
       ∙ ap (λ (b : Bool). (b || has slots slot) || slice_index_or marks slot false) (sym (eq-eqb s slot e))
   first (inr other) =
       ap (λ (b : Bool). has slots slot || b) (get_or-set_other marks s slot true false (λ e. other (sym e)))
       ∙ ap (λ (b : Bool). (b || has slots slot) || slice_index_or marks slot false) (sym (ne_eqb s slot other))
 
--- some number below a bound passes, or none does
-pub any_push : (test : ℕ → Bool) (n : ℕ) → list_any test (range_with_len 0 (suc n)) ≡ (list_any test (range_with_len 0 n) || (test n || false))
-any_push test n =
-    ap (λ (m : ℕ). list_any test (range_with_len 0 m)) (let e : suc n ≡ n + 1 = omega arith in e)
-    ∙ ap (list_any test) (range_push 0 n)
-    ∙ ap (λ (m : ℕ). list_any test (range_with_len 0 n ++ m ∷ [])) (let e : 0 + n ≡ n = omega arith in e)
-    ∙ list_any-append test (range_with_len 0 n) (n ∷ [])
-
-pub any_below : (test : ℕ → Bool) (n k : ℕ) → k < n → test k ≡ true → list_any test (range_with_len 0 n) ≡ true
-any_below test zero k lt met = absurd (omega arith)
-any_below test (suc n) k lt met = any_push test n ∙ by_order (cases_eq n k) (λ less. any_below test n k less met) where
-  by_order : (n ≡ k) ⊎ (n ≡ k → ⊥) → (k < n → list_any test (range_with_len 0 n) ≡ true) → (list_any test (range_with_len 0 n) || (test n || false)) ≡ true
-  by_order (inl e) ih = ap (λ (b : Bool). list_any test (range_with_len 0 n) || (b || false)) (ap test e ∙ met) ∙ or_end (list_any test (range_with_len 0 n))
-  by_order (inr other) ih = ap (λ (b : Bool). b || (test n || false)) (ih (omega arith))
-
-pub any_alike : (p q : ℕ → Bool) (n : ℕ) → ((k : ℕ) → k < n → p k ≡ q k) → list_any p (range_with_len 0 n) ≡ list_any q (range_with_len 0 n)
-any_alike p q zero h = refl
-any_alike p q (suc n) h =
-    any_push p n
-    ∙ ap (λ (b : Bool). b || (p n || false)) (any_alike p q n (λ k lt. h k (omega arith)))
-    ∙ ap (λ (b : Bool). list_any q (range_with_len 0 n) || (b || false)) (h n (omega arith))
-    ∙ sym (any_push q n)
-
-any_none : (n : ℕ) → list_any (λ k. false) (range_with_len 0 n) ≡ false
-any_none zero = refl
-any_none (suc n) = any_push (λ k. false) n ∙ ap (λ (b : Bool). b || false) (any_none n)
-
-pub none_below : (test : ℕ → Bool) (n : ℕ) → ((k : ℕ) → k < n → test k ≡ false) → list_any test (range_with_len 0 n) ≡ false
-none_below test n h = any_alike test (λ k. false) n h ∙ any_none n
-
 module _ (c : Core) (seat task at : ℕ) (is : IsSeat c.views seat (view.Running task at due.Nothing)) (stands : slice_get (script c.graph task) at ≡ Some act.Publishes) (sound : IsSound c) where
   below : task < c.graph.tasks
-  below = ltb-true _ _ (and_parts _ _ (seat_fits c sound seat (view.Running task at due.Nothing) is)).0
+  below = runs_task c sound seat task at due.Nothing is
 
   word_else : (t : ℕ) → t ≢ task → slice_index (slice_set c.published task 1) t ≡ slice_index c.published t
   word_else t other = get_or-set_other c.published task t 1 0 other
@@ -102,33 +68,24 @@ module _ (c : Core) (seat task at : ℕ) (is : IsSeat c.views seat (view.Running
     by_task (inr other) = omega (arith, word_else t other)
 
   same_behind : SameBehind c.graph c.published (slice_set c.published task 1) c.views (slice_set c.views seat (view.Running task (at + 1) due.Nothing))
-  same_behind = record {
-    finished = finished_stay c seat task at (at + 1) due.Nothing due.Nothing is sound (slice_set c.published task 1) word_else;
-    uses = λ t slot. number_goes c seat task at is sound act.Publishes stands (lowers_use slot) refl t;
-    successors = λ t successor. number_goes c seat task at is sound act.Publishes stands (lowers_successor successor) refl t;
-  }
+  same_behind = kept_behind c seat task at (at + 1) due.Nothing due.Nothing is sound (slice_set c.published task 1) word_else
+      (λ slot. goes c seat task at is sound act.Publishes stands (lowers_use slot) refl) (λ successor. goes c seat task at is sound act.Publishes stands (lowers_successor successor) refl)
 
   dues : SameDues c.graph c.views (slice_set c.views seat (view.Running task (at + 1) due.Nothing))
   unfolding opens
-  dues = dues_go c seat task at is sound act.Publishes stands (λ slot. refl) (λ slot. no_close_next c.graph task at slot act.Publishes stands refl)
+  dues = record {
+    put = λ p test. undue c seat task at (at + 1) due.Nothing due.Nothing is sound (is_put_at p) refl refl test;
+    in_hand = λ t. undue c seat task at (at + 1) due.Nothing due.Nothing is sound is_in_hand refl refl (lowers_successor t);
+    closing = closing_same c seat task at (at + 1) due.Nothing due.Nothing is sound (λ slot. ap (act_passes (closes slot)) stands) (λ slot. no_close_next c.graph task at slot act.Publishes stands refl);
+    scrubbing = λ slot. undue c seat task at (at + 1) due.Nothing due.Nothing is sound is_scrub refl refl (lowers_use slot);
+  }
 
   -- a slot that the task writes has no other writer
-  only_writer : (slot t : ℕ) → slot < c.graph.slots → writes c.graph task slot ≡ true → t < c.graph.tasks → t ≢ task → writes c.graph t slot ≡ false
-  only_writer slot t within own lt other = by_test (cases_Bool (writes c.graph t slot)) where
-    one : writers c.graph slot ≤ 1
-    one = by_age (cases_lt slot c.graph.old) where
-      by_age : (slot < c.graph.old) ⊎ (c.graph.old ≤ slot) → writers c.graph slot ≤ 1
-      by_age (inl old) = omega (arith, sound.graph.slots.unwritten slot old)
-      by_age (inr new) = omega (arith, sound.graph.slots.written slot new within)
-
+  no_other : (slot t : ℕ) → slot < c.graph.slots → writes c.graph task slot ≡ true → t < c.graph.tasks → t ≢ task → writes c.graph t slot ≡ false
+  no_other slot t within own lt other = by_test (cases_Bool (writes c.graph t slot)) where
     by_test : (writes c.graph t slot ≡ true) ⊎ (writes c.graph t slot ≡ false) → writes c.graph t slot ≡ false
     by_test (inr none) = none
-    by_test (inl too) =
-        let here : get_or (tasks_of c.graph) task 0 ≡ task = get_or-range_with_len 0 c.graph.tasks task 0 below ∙ (let e : 0 + task ≡ task = omega arith in e) in
-        let there : get_or (tasks_of c.graph) t 0 ≡ t = get_or-range_with_len 0 c.graph.tasks t 0 lt ∙ (let e : 0 + t ≡ t = omega arith in e) in
-        let long = length-range_with_len 0 c.graph.tasks in
-        absurd (other (one_place (λ u. writes c.graph u slot) 0 (tasks_of c.graph) t task (omega (arith, long)) (omega (arith, long, below))
-        (ap (λ (u : ℕ). writes c.graph u slot) there ∙ too) (ap (λ (u : ℕ). writes c.graph u slot) here ∙ own) one))
+    by_test (inl too) = absurd (other (only_writer c.graph sound.graph.slots slot t task within lt below too own))
 
   slot_stands : (slot : ℕ) → slot < c.graph.slots → (writes c.graph task slot ≡ true) ⊎ (writes c.graph task slot ≡ false) →
       SlotStands (is_unwritten c.graph c.published slot) (slice_index c.left slot) (slice_index c.turn slot) (slice_index_or c.home slot false) (number_at c.graph c.views is_anything (closes slot)) (number_at c.graph c.views is_scrub (lowers_use slot)) →
@@ -142,7 +99,7 @@ module _ (c : Core) (seat task at : ℕ) (is : IsSeat c.views seat (view.Running
     now = none_below (λ t. writes c.graph t slot && not (slice_index (slice_set c.published task 1) t == 1)) c.graph.tasks (λ t lt. each t lt (cases_eq t task)) where
       each : (t : ℕ) → t < c.graph.tasks → (t ≡ task) ⊎ (t ≡ task → ⊥) → (writes c.graph t slot && not (slice_index (slice_set c.published task 1) t == 1)) ≡ false
       each t lt (inl e) = and_right _ _ (ap (λ (w : ℕ). not (w == 1)) (ap (slice_index (slice_set c.published task 1)) e ∙ word_now))
-      each t lt (inr other) = and_left _ _ (only_writer slot t within own lt other)
+      each t lt (inr other) = and_left _ _ (no_other slot t within own lt other)
 
     home : slice_index_or (marked c.home (writes_of c.graph task) true) slot false ≡ true
     home = marked_at (writes_of c.graph task) c.home slot (omega (arith, sound.shapes.home_length)) ∙ or_left _ _ own
@@ -150,7 +107,7 @@ module _ (c : Core) (seat task at : ℕ) (is : IsSeat c.views seat (view.Running
     left : 1 ≤ slice_index c.left slot
     left =
         let unlowered : is_behind c.graph c.published c.views (lowers_use slot) task ≡ false = behind_was c seat task at (at + 1) due.Nothing due.Nothing is sound c.published (lowers_use slot) ∙ nothing_behind (lowers_use slot) ∙ reads_lower_no_use slot (reads_of c.graph task) in
-        let counts = counts_one (λ t. (reads c.graph t slot || writes c.graph t slot) && not (is_behind c.graph c.published c.views (lowers_use slot) t)) c.graph.tasks task below
+        let counts = count_one (λ t. (reads c.graph t slot || writes c.graph t slot) && not (is_behind c.graph c.published c.views (lowers_use slot) t)) c.graph.tasks task below
         (and_from _ _ (or_right _ _ own) (ap not unlowered)) in
         omega (arith, counts, sound.uses.counts slot within)
 
@@ -169,7 +126,7 @@ module _ (c : Core) (seat task at : ℕ) (is : IsSeat c.views seat (view.Running
       home = sym (marked_at (writes_of c.graph task) c.home slot (omega (arith, sound.shapes.home_length)) ∙ ap (λ (b : Bool). b || slice_index_or c.home slot false) none)
 
       unwritten : is_unwritten c.graph c.published slot ≡ is_unwritten c.graph (slice_set c.published task 1) slot
-      unwritten = any_alike _ _ c.graph.tasks (λ t lt. each t (cases_eq t task)) where
+      unwritten = alike_below _ _ c.graph.tasks (λ t lt. each t (cases_eq t task)) where
         each : (t : ℕ) → (t ≡ task) ⊎ (t ≡ task → ⊥) → (writes c.graph t slot && not (slice_index c.published t == 1)) ≡ (writes c.graph t slot && not (slice_index (slice_set c.published task 1) t == 1))
         each t (inl e) =
             let away : writes c.graph t slot ≡ false = ap (λ (u : ℕ). writes c.graph u slot) e ∙ none in
@@ -179,19 +136,13 @@ module _ (c : Core) (seat task at : ℕ) (is : IsSeat c.views seat (view.Running
   told : (t : ℕ) → (t ≡ task) ⊎ (t ≡ task → ⊥) → 1 ≤ runners (slice_set c.views seat (view.Running task (at + 1) due.Nothing)) t →
       slice_index (slice_set c.published task 1) t ≡ number_behind c.graph (slice_set c.views seat (view.Running task (at + 1) due.Nothing)) publishes t
   told t (inl e) some =
-      let one : number (list_any publishes (take (at + 1) (script c.graph task))) ≡ 1 = ap number (one_more c seat task at is sound act.Publishes stands publishes ∙ or_end (list_any publishes (take at (script c.graph task)))) in
+      let one : number (list_any publishes (take (at + 1) (script c.graph task))) ≡ 1 = ap number (one_more c seat task at is sound act.Publishes stands publishes ∙ or-true (list_any publishes (take at (script c.graph task)))) in
       subst (λ (u : ℕ). slice_index (slice_set c.published task 1) u ≡ number_behind c.graph (slice_set c.views seat (view.Running task (at + 1) due.Nothing)) publishes u) (sym e)
       (word_now ∙ sym (number_is c seat task at (at + 1) due.Nothing due.Nothing is sound publishes ∙ one))
   told t (inr other) some =
       word_else t other
       ∙ sound.running.told t (omega (arith, runners_stay c seat task at (at + 1) due.Nothing due.Nothing is sound t))
       ∙ sym (number_else c seat task at (at + 1) due.Nothing due.Nothing is sound publishes t other)
-
-  still : (place : ℕ) → (1 ≤ holders c.views place) ⊎ (HasBegun (slice_index c.ring place) c.published (runners c.views) ⊎ (c.abort ≡ 1)) →
-      (1 ≤ holders (slice_set c.views seat (view.Running task (at + 1) due.Nothing)) place) ⊎ (HasBegun (slice_index c.ring place) (slice_set c.published task 1) (runners (slice_set c.views seat (view.Running task (at + 1) due.Nothing))) ⊎ (c.abort ≡ 1))
-  still place (inl held) = inl (omega (arith, count_same c.views seat (view.Running task at due.Nothing) (view.Running task (at + 1) due.Nothing) is (holds place) refl))
-  still place (inr (inl (t, there, some))) = inr (inl (t, there, omega (arith, runners_stay c seat task at (at + 1) due.Nothing due.Nothing is sound t, word_grows t)))
-  still place (inr (inr aborted)) = inr (inr aborted)
 
   drawn_before : (t : ℕ) → (t ≡ task) ⊎ (t ≡ task → ⊥) → 1 ≤ runners (slice_set c.views seat (view.Running task (at + 1) due.Nothing)) t + slice_index (slice_set c.published task 1) t → 1 ≤ runners c.views t + slice_index c.published t
   drawn_before t (inl e) some =
@@ -209,43 +160,30 @@ module _ (c : Core) (seat task at : ℕ) (is : IsSeat c.views seat (view.Running
       let tickets = λ (p : ℕ). count_same c.views seat old new is (holds p) refl in
       let runners' = runners_stay c seat task at (at + 1) due.Nothing due.Nothing is sound in
       let next = next_exists c.graph task at act.Publishes stands (λ e. cc) in
-      let fits = and_from _ _ (lt-ltb _ _ below) (ap (may_owe due.Nothing) next.1) in
+      let fits = fits_there c sound seat task at (at + 1) due.Nothing due.Nothing is (ap (may_owe due.Nothing) next.1) in
       let shapes = shapes_seat c.graph c.ring c.dep c.published c.left c.turn c.home c.abort c.views seat new fits sound.shapes in
-      record {
-        graph = sound.graph;
-        shapes = record {
-          ring_length = shapes.ring_length;
-          dep_length = shapes.dep_length;
-          published_length = length-set c.published task 1 ∙ shapes.published_length;
-          left_length = shapes.left_length;
-          turn_length = shapes.turn_length;
-          home_length = length_marked (writes_of c.graph task) c.home true ∙ shapes.home_length;
-          some_seat = shapes.some_seat;
-          few_seats = shapes.few_seats;
-          published_words = All-set (λ word. word ≤ 1) c.published task 1 (omega arith) shapes.published_words;
-          turn_words = shapes.turn_words;
-          abort_word = shapes.abort_word;
-          views_fit = shapes.views_fit;
-        };
-        tickets = record {
-          below = λ p some. sound.tickets.below p (omega (arith, tickets p));
-          apart = λ p. omega (arith, tickets p, sound.tickets.apart p);
-        };
-        ring = ring_framed c.graph c.tail c.ring c.dep c.views (slice_set c.views seat new) dues sound.ring;
+      let views = slice_set c.views seat new in
+      sound_of (record c { published = slice_set c.published task 1; home = marked c.home (writes_of c.graph task) true }) views sound.graph (record {
+        ring = ring_framed c.graph c.tail c.ring c.dep c.views views dues sound.ring;
+        dependencies = dependencies_framed c.graph c.published (slice_set c.published task 1) c.views views same_behind c.dep sound.dependencies;
+        uses = uses_framed c.graph c.published (slice_set c.published task 1) c.views views same_behind c.left sound.uses;
+        slots = slots_framed c.graph c.left c.turn (marked c.home (writes_of c.graph task) true) (is_unwritten c.graph (slice_set c.published task 1)) c.views views dues
+            (record { unused = sound.slots.unused; stands = λ slot within. slot_stands slot within (cases_Bool (writes c.graph task slot)) (sound.slots.stands slot within) });
+        done = done_framed c.graph c.published (slice_set c.published task 1) c.views views same_behind c.done sound.done;
+      }) (record {
+        shapes = shapes_as c (record c { published = slice_set c.published task 1; home = marked c.home (writes_of c.graph task) true }) views refl refl (length-set c.published task 1) refl refl (length_marked (writes_of c.graph task) c.home true)
+            (All-set (λ word. word ≤ 1) c.published task 1 (omega arith) shapes.published_words) shapes.turn_words shapes.abort_word shapes;
+        tickets = fewer_tickets c.graph c.head (holders c.views) (holders views) (λ p. omega (arith, tickets p)) sound.tickets;
         running = record {
           drawn = λ t lt some. let was = sound.running.drawn t lt (drawn_before t (cases_eq t task) some) in (was.0, was.1, was.2, tickets was.0 ∙ was.3);
           apart = λ t. omega (arith, runners' t, sound.running.apart t);
           told = λ t some. told t (cases_eq t task) some;
         };
-        dependencies = dependencies_framed c.graph c.published (slice_set c.published task 1) c.views (slice_set c.views seat new) same_behind c.dep sound.dependencies;
-        uses = uses_framed c.graph c.published (slice_set c.published task 1) c.views (slice_set c.views seat new) same_behind c.left sound.uses;
-        slots = slots_framed c.graph c.left c.turn (marked c.home (writes_of c.graph task) true) (is_unwritten c.graph (slice_set c.published task 1)) c.views (slice_set c.views seat new) dues
-            (record { unused = sound.slots.unused; stands = λ slot within. slot_stands slot within (cases_Bool (writes c.graph task slot)) (sound.slots.stands slot within) });
-        done = done_framed c.graph c.published (slice_set c.published task 1) c.views (slice_set c.views seat new) same_behind c.done sound.done;
-        head = record { drawn = omega (arith, gone, sound.head.drawn); all = seats ∙ (sound.head.all ∙ sym (length-set c.views seat new)) };
+        head = head_stays c views gone seats (length-set c.views seat new) sound;
         nothing_lost = record {
           aborted = subst (λ (n : ℕ). (c.abort ≡ 1) ↔ (1 ≤ n)) (sym halted) sound.nothing_lost.aborted;
           ended = λ some. sound.nothing_lost.ended (omega (arith, gone));
-          begun = λ p lt room. still p (sound.nothing_lost.begun p lt room);
+          begun = λ p lt room. begun_still (slice_index c.ring p) c.abort c.published (slice_set c.published task 1) (holders c.views p) (holders views p) (runners c.views) (runners views)
+              (λ some. omega (arith, tickets p)) (λ t there some. omega (arith, runners' t, word_grows t)) (sound.nothing_lost.begun p lt room);
         };
-      }
+      })

@@ -1,48 +1,35 @@
 -- A seat that puts a task into the ring leaves a sound state.
 use Rattle.std.proofs.Common.{◌≡◌, ◌∙◌, ◌≢◌, ◌≤◌, ◌<◌, ◌+◌, ℕ, Bool, true, cond, Some, ◌⊎◌, inl, inr, length, ap, sym, refl, subst, arith, length-set, get_or-set_same, get_or-set_other}
 use Rattle.std.specs.Prelude.{◌==◌, slice_get, slice_set, slice_index}
-use Rattle.std.proofs.lemmas.Bool.{cases_eq, eq-eqb, ne_eqb, and_from, ltb-true, and_left, and_parts}
+use Rattle.std.proofs.lemmas.Bool.{cases_eq, eq-eqb, ne_eqb, and_from, and_left}
 use Rattle.std.proofs.lemmas.List.Sums.{sum_by-set}
 use Rattle.sched_core.specs.declared.act.Act.{Act}
 use Rattle.sched_core.specs.declared.act.Act.TheVariants as act
 use Rattle.sched_core.specs.declared.view.Due.TheVariants as due
 use Rattle.sched_core.specs.declared.view.View.TheVariants as view
 use Rattle.sched_core.specs.declared.state.Core.{Core}
-use Rattle.sched_core.specs.Core.{script, act_passes, is_at, holders, runners, number_at, number_behind, is_scrub, is_put_at, is_in_hand, is_anything, does_something, closes, publishes, lowers_use, lowers_successor}
+use Rattle.sched_core.specs.Core.{script, act_passes, is_at, holders, runners, number_at, is_scrub, is_put_at, is_in_hand, is_anything, does_something, closes, publishes, lowers_use, lowers_successor}
 use Rattle.sched_core.specs.Sound.{Ring, IsFilled, HasBegun, number_in, IsSound, is_unwritten, may_owe}
 use Rattle.sched_core.proofs.Lists.{number, number_true, number_false}
 use Rattle.sched_core.proofs.Seats.{IsSeat, counted, count_same, count_less, count_at_least}
-use Rattle.sched_core.proofs.Frames.{SameBehind, dependencies_framed, uses_framed, done_framed, slots_alike}
-use Rattle.sched_core.proofs.Facts.{seat_fits}
+use Rattle.sched_core.proofs.Frames.{SameBehind, dependencies_framed, uses_framed, done_framed, slots_alike, IsSeatSound, shapes_as, sound_of}
+use Rattle.sched_core.proofs.Facts.{runs_task}
 use Rattle.sched_core.proofs.Progress.{next_exists, no_close_next, opens}
-use Rattle.sched_core.proofs.Moving.{finished_stay, number_was, number_is, number_else}
-use Rattle.sched_core.proofs.Going.{IsSeatSound, goes_on}
-use Rattle.sched_core.proofs.LoweringDeps.{successor_below}
+use Rattle.sched_core.proofs.Moving.{number_kept, kept_behind, undue, closing_same}
+use Rattle.sched_core.proofs.Going.{goes_on}
+use Rattle.sched_core.proofs.LoweringDeps.{follower}
 
 module _ (c : Core) (seat task at e q : ℕ) (is : IsSeat c.views seat (view.Running task at (due.Put q))) (stands : slice_get (script c.graph task) at ≡ Some (act.LowersSuccessor e)) (sound : IsSound c) where
-  behind_same : (test : Act → Bool) (t : ℕ) → number_behind c.graph c.views test t ≡ number_behind c.graph (slice_set c.views seat (view.Running task (at + 1) due.Nothing)) test t
-  behind_same test t = by_task (cases_eq t task) where
-    by_task : (t ≡ task) ⊎ (t ≡ task → ⊥) → number_behind c.graph c.views test t ≡ number_behind c.graph (slice_set c.views seat (view.Running task (at + 1) due.Nothing)) test t
-    by_task (inl same) =
-        subst (λ (u : ℕ). number_behind c.graph c.views test u ≡ number_behind c.graph (slice_set c.views seat (view.Running task (at + 1) due.Nothing)) test u) (sym same)
-        (number_was c seat task at (at + 1) (due.Put q) due.Nothing is sound test ∙ sym (number_is c seat task at (at + 1) (due.Put q) due.Nothing is sound test))
-    by_task (inr other) = sym (number_else c seat task at (at + 1) (due.Put q) due.Nothing is sound test t other)
+  seats : IsSeatSound c (slice_set c.views seat (view.Running task (at + 1) due.Nothing))
+  seats =
+      goes_on c seat task at (at + 1) (due.Put q) due.Nothing is sound (ap (may_owe due.Nothing) (next_exists c.graph task at (act.LowersSuccessor e) stands (λ same. cc)).1)
+      (number_kept c seat task at (at + 1) (due.Put q) due.Nothing is sound publishes refl)
 
   same_behind : SameBehind c.graph c.published c.published c.views (slice_set c.views seat (view.Running task (at + 1) due.Nothing))
-  same_behind = record {
-    finished = finished_stay c seat task at (at + 1) (due.Put q) due.Nothing is sound c.published (λ t other. refl);
-    uses = λ t s. behind_same (lowers_use s) t;
-    successors = λ t successor. behind_same (lowers_successor successor) t;
-  }
-
-  fits : (may_owe due.Nothing (slice_get (script c.graph task) (at + 1))) ≡ true
-  fits = ap (may_owe due.Nothing) (next_exists c.graph task at (act.LowersSuccessor e) stands (λ same. cc)).1
-
-  seats : IsSeatSound c (slice_set c.views seat (view.Running task (at + 1) due.Nothing))
-  seats = goes_on c seat task at (at + 1) (due.Put q) due.Nothing is sound (and_from _ _ (and_parts _ _ (seat_fits c sound seat (view.Running task at (due.Put q)) is)).0 fits) (behind_same publishes)
+  same_behind = kept_behind c seat task at (at + 1) (due.Put q) due.Nothing is sound c.published (λ t other. refl) (λ s. refl) (λ t. refl)
 
   below : e < c.graph.tasks
-  below = successor_below c.graph sound.graph task at e (ltb-true _ _ (and_parts _ _ (seat_fits c sound seat (view.Running task at (due.Put q)) is)).0) stands
+  below = (follower c.graph sound.graph task at e (runs_task c sound seat task at (due.Put q) is) stands).there
 
   -- it owes the place its task, and no other seat does
   here : is_at c.graph (is_put_at q) does_something (view.Running task at (due.Put q)) ≡ true
@@ -132,54 +119,40 @@ module _ (c : Core) (seat task at e q : ℕ) (is : IsSeat c.views seat (view.Run
     ordered = λ p t before there lt after. let found = sound.ring.ordered p t before (stood p t (cases_eq p q) there) lt after in (found.0, found.1, stays found.0 before found.2);
   }
 
-  still : (p : ℕ) →
-      (1 ≤ holders (slice_set c.views seat (view.Running task (at + 1) due.Nothing)) p) ⊎ (HasBegun (slice_index c.ring p) c.published (runners (slice_set c.views seat (view.Running task (at + 1) due.Nothing))) ⊎ (c.abort ≡ 1)) →
-      (1 ≤ holders (slice_set c.views seat (view.Running task (at + 1) due.Nothing)) p) ⊎ (HasBegun (slice_index (slice_set c.ring q (e + 1)) p) c.published (runners (slice_set c.views seat (view.Running task (at + 1) due.Nothing))) ⊎ (c.abort ≡ 1))
-  still p (inl held) = inl held
-  still p (inr (inl (t, there, some))) = inr (inl (t, stays p t there, some))
-  still p (inr (inr aborted)) = inr (inr aborted)
-
-  closing_same : (s : ℕ) → number_at c.graph c.views is_anything (closes s) ≡ number_at c.graph (slice_set c.views seat (view.Running task (at + 1) due.Nothing)) is_anything (closes s)
+  closing_none : (s : ℕ) → number_at c.graph c.views is_anything (closes s) ≡ number_at c.graph (slice_set c.views seat (view.Running task (at + 1) due.Nothing)) is_anything (closes s)
   unfolding opens
-  closing_same s =
-      sym (count_same c.views seat (view.Running task at (due.Put q)) (view.Running task (at + 1) due.Nothing) is (is_at c.graph is_anything (closes s))
-      (ap (act_passes (closes s)) stands ∙ sym (no_close_next c.graph task at s (act.LowersSuccessor e) stands refl)))
-
-  scrubbing_same : (s : ℕ) → number_at c.graph c.views is_scrub (lowers_use s) ≡ number_at c.graph (slice_set c.views seat (view.Running task (at + 1) due.Nothing)) is_scrub (lowers_use s)
-  scrubbing_same s = sym (count_same c.views seat (view.Running task at (due.Put q)) (view.Running task (at + 1) due.Nothing) is (is_at c.graph is_scrub (lowers_use s)) refl)
+  closing_none =
+      closing_same c seat task at (at + 1) (due.Put q) due.Nothing is sound (λ s. ap (act_passes (closes s)) stands) (λ s. no_close_next c.graph task at s (act.LowersSuccessor e) stands refl)
 
   pub put_sound : IsSound (record c { ring = slice_set c.ring q (e + 1); views = slice_set c.views seat (view.Running task (at + 1) due.Nothing) })
-  put_sound = record {
-    graph = sound.graph;
-    shapes = record {
-      ring_length = length-set c.ring q (e + 1) ∙ seats.shapes.ring_length;
-      dep_length = seats.shapes.dep_length;
-      published_length = seats.shapes.published_length;
-      left_length = seats.shapes.left_length;
-      turn_length = seats.shapes.turn_length;
-      home_length = seats.shapes.home_length;
-      some_seat = seats.shapes.some_seat;
-      few_seats = seats.shapes.few_seats;
-      published_words = seats.shapes.published_words;
-      turn_words = seats.shapes.turn_words;
-      abort_word = seats.shapes.abort_word;
-      views_fit = seats.shapes.views_fit;
-    };
-    tickets = seats.tickets;
-    ring = ring_now;
-    running = record {
-      drawn = λ t lt some. let was = seats.running.drawn t lt some in (was.0, was.1, stays was.0 t was.2, was.3);
-      apart = seats.running.apart;
-      told = seats.running.told;
-    };
-    dependencies = dependencies_framed c.graph c.published c.published c.views (slice_set c.views seat (view.Running task (at + 1) due.Nothing)) same_behind c.dep sound.dependencies;
-    uses = uses_framed c.graph c.published c.published c.views (slice_set c.views seat (view.Running task (at + 1) due.Nothing)) same_behind c.left sound.uses;
-    slots = slots_alike c.graph c.left c.turn c.home (is_unwritten c.graph c.published) c.views (slice_set c.views seat (view.Running task (at + 1) due.Nothing)) closing_same scrubbing_same sound.slots;
-    done = done_framed c.graph c.published c.published c.views (slice_set c.views seat (view.Running task (at + 1) due.Nothing)) same_behind c.done sound.done;
-    head = seats.head;
-    nothing_lost = record {
-      aborted = seats.nothing_lost.aborted;
-      ended = seats.nothing_lost.ended;
-      begun = λ p lt room. still p (seats.nothing_lost.begun p lt room);
-    };
-  }
+  put_sound =
+      let views = slice_set c.views seat (view.Running task (at + 1) due.Nothing) in
+      sound_of (record c { ring = slice_set c.ring q (e + 1) }) views sound.graph (record {
+        ring = ring_now;
+        dependencies = dependencies_framed c.graph c.published c.published c.views views same_behind c.dep sound.dependencies;
+        uses = uses_framed c.graph c.published c.published c.views views same_behind c.left sound.uses;
+        slots = slots_alike c.graph c.left c.turn c.home (is_unwritten c.graph c.published) c.views views closing_none
+            (λ s. undue c seat task at (at + 1) (due.Put q) due.Nothing is sound is_scrub refl refl (lowers_use s)) sound.slots;
+        done = done_framed c.graph c.published c.published c.views views same_behind c.done sound.done;
+      }) (record {
+        shapes = shapes_as c (record c { ring = slice_set c.ring q (e + 1) }) views (length-set c.ring q (e + 1)) refl refl refl refl refl seats.shapes.published_words seats.shapes.turn_words seats.shapes.abort_word seats.shapes;
+        tickets = seats.tickets;
+        running = record {
+          drawn = λ t lt some. let was = seats.running.drawn t lt some in (was.0, was.1, stays was.0 t was.2, was.3);
+          apart = seats.running.apart;
+          told = seats.running.told;
+        };
+        head = seats.head;
+        nothing_lost = record {
+          aborted = seats.nothing_lost.aborted;
+          ended = seats.nothing_lost.ended;
+          begun = λ p lt room. still p (seats.nothing_lost.begun p lt room);
+        };
+      })
+    where
+      still : (p : ℕ) →
+          (1 ≤ holders (slice_set c.views seat (view.Running task (at + 1) due.Nothing)) p) ⊎ (HasBegun (slice_index c.ring p) c.published (runners (slice_set c.views seat (view.Running task (at + 1) due.Nothing))) ⊎ (c.abort ≡ 1)) →
+          (1 ≤ holders (slice_set c.views seat (view.Running task (at + 1) due.Nothing)) p) ⊎ (HasBegun (slice_index (slice_set c.ring q (e + 1)) p) c.published (runners (slice_set c.views seat (view.Running task (at + 1) due.Nothing))) ⊎ (c.abort ≡ 1))
+      still p (inl held) = inl held
+      still p (inr (inl (t, there, some))) = inr (inl (t, stays p t there, some))
+      still p (inr (inr aborted)) = inr (inr aborted)

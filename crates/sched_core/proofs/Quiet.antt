@@ -1,19 +1,16 @@
 -- Views that run no task: a change of one for another leaves the graph and the slots as they were.
-use Rattle.std.proofs.Common.{◌≡◌, ◌∙◌, ◌≤◌, ◌<◌, ◌+◌, ℕ, Bool, true, false, List, ap, sym, refl, subst, arith}
-use Rattle.std.specs.Prelude.{◌==◌, ◌&&◌, slice_set, slice_index, IsTrue}
-use Rattle.std.proofs.Common.{length-set}
+use Rattle.std.proofs.Common.{◌≡◌, ◌∙◌, ℕ, Bool, true, false, List, ap, sym, refl}
+use Rattle.std.specs.Prelude.{◌==◌, ◌&&◌, slice_set, slice_index}
 use Rattle.std.proofs.lemmas.Bool.{false≢true}
-use Rattle.std.proofs.lemmas.List.Elements.{All-set}
 use Rattle.graph_types.specs.declared.graph.Graph.{Graph}
 use Rattle.sched_core.specs.declared.act.Act.{Act}
 use Rattle.sched_core.specs.declared.view.Due.{Due}
 use Rattle.sched_core.specs.declared.view.View.{View}
 use Rattle.sched_core.specs.declared.view.View.TheVariants as view
-use Rattle.sched_core.specs.declared.state.Core.{Core}
-use Rattle.sched_core.specs.Core.{runners, runs, is_at, has_behind, number_at, number_behind, is_finished, is_behind, is_scrub, is_put_at, is_in_hand, is_anything, does_something, closes, lowers_use, lowers_successor}
-use Rattle.sched_core.specs.Sound.{is_in_shape, Shapes, Ring, Running, Dependencies, Uses, Slots, Done, IsSound, is_unwritten}
+use Rattle.sched_core.specs.Core.{runners, runs, is_at, has_behind, number_at, number_behind, is_scrub, is_put_at, is_in_hand, is_anything, closes, lowers_use, lowers_successor}
+use Rattle.sched_core.specs.Sound.{is_in_shape}
 use Rattle.sched_core.proofs.Seats.{IsSeat, count_same}
-use Rattle.sched_core.proofs.Frames.{SameDues, SameBehind, ring_framed, slots_framed, dependencies_framed, uses_framed, done_framed}
+use Rattle.sched_core.proofs.Frames.{SameDues, SameBehind}
 
 unfoldable pub is_running : View → Bool
 is_running (view.Running task at owed) = true
@@ -38,24 +35,6 @@ pub shape_quiet : (g : Graph) (v : View) → is_running v ≡ false → is_in_sh
 unfolding is_running
 shape_quiet g (view.Running t at owed) quiet = absurd (false≢true (sym quiet))
 shape_quiet g _ quiet = refl
-
--- the views keep their shape with a new one among them
-pub shapes_seat : (g : Graph) (ring dep published left turn : List ℕ) (home : List Bool) (abort : ℕ) (views : List View) (seat : ℕ) (new : View) →
-    is_in_shape g new ≡ true → Shapes g ring dep published left turn home abort views → Shapes g ring dep published left turn home abort (slice_set views seat new)
-shapes_seat g ring dep published left turn home abort views seat new fits h = record {
-  ring_length = h.ring_length;
-  dep_length = h.dep_length;
-  published_length = h.published_length;
-  left_length = h.left_length;
-  turn_length = h.turn_length;
-  home_length = h.home_length;
-  some_seat = subst (λ (n : ℕ). 1 ≤ n) (sym (length-set views seat new)) h.some_seat;
-  few_seats = subst (λ (n : ℕ). n ≤ 64) (sym (length-set views seat new)) h.few_seats;
-  published_words = h.published_words;
-  turn_words = h.turn_words;
-  abort_word = h.abort_word;
-  views_fit = All-set (λ (v : View). IsTrue (is_in_shape g v)) views seat new fits h.views_fit;
-}
 
 -- one quiet view in place of another
 module _ (views : List View) (seat : ℕ) (old new : View) (is : IsSeat views seat old) (quiet : is_running old ≡ false) (stays : is_running new ≡ false) where
@@ -82,35 +61,3 @@ module _ (views : List View) (seat : ℕ) (old new : View) (is : IsSeat views se
     uses = λ task slot. quiet_behind g (lowers_use slot) task;
     successors = λ task successor. quiet_behind g (lowers_successor successor) task;
   }
-
--- The parts that speak of the graph and the slots.
-pub record IsWorkSound (c : Core) (views : List View) : Type 0 where
-  pub ring : Ring c.graph c.tail c.ring c.dep (λ place. number_at c.graph views (is_put_at place) does_something) (λ task. number_at c.graph views is_in_hand (lowers_successor task)) (λ place task. number_at c.graph views (is_put_at place) (lowers_successor task))
-  pub dependencies : Dependencies c.graph c.dep (λ task successor. is_behind c.graph c.published views (lowers_successor successor) task)
-  pub uses : Uses c.graph c.left (λ task slot. is_behind c.graph c.published views (lowers_use slot) task)
-  pub slots : Slots c.graph c.left c.turn c.home (is_unwritten c.graph c.published) (λ slot. number_at c.graph views is_anything (closes slot)) (λ slot. number_at c.graph views is_scrub (lowers_use slot))
-  pub done : Done c.graph c.done (is_finished c.published views)
-
-pub work_framed : (c : Core) (before after : List View) → SameDues c.graph before after → SameBehind c.graph c.published c.published before after → IsWorkSound c before → IsWorkSound c after
-work_framed c before after dues behind h = record {
-  ring = ring_framed c.graph c.tail c.ring c.dep before after dues h.ring;
-  dependencies = dependencies_framed c.graph c.published c.published before after behind c.dep h.dependencies;
-  uses = uses_framed c.graph c.published c.published before after behind c.left h.uses;
-  slots = slots_framed c.graph c.left c.turn c.home (is_unwritten c.graph c.published) before after dues h.slots;
-  done = done_framed c.graph c.published c.published before after behind c.done h.done;
-}
-
-pub work_of : (c : Core) → IsSound c → IsWorkSound c c.views
-work_of c h = record { ring = h.ring; dependencies = h.dependencies; uses = h.uses; slots = h.slots; done = h.done }
-
--- what runs is as it was, and of what was drawn no ticket is held again
-pub running_moved : (g : Graph) (head head' : ℕ) (ring published : List ℕ) (tickets tickets' runners runners' publishing publishing' : ℕ → ℕ) →
-    head ≤ head' → ((place : ℕ) → place < head → tickets place ≡ 0 → tickets' place ≡ 0) → ((task : ℕ) → runners task ≡ runners' task) → ((task : ℕ) → publishing task ≡ publishing' task) →
-    Running g head ring published tickets runners publishing → Running g head' ring published tickets' runners' publishing'
-running_moved g head head' ring published tickets tickets' runners runners' publishing publishing' on none same told h = record {
-  drawn = λ task below some.
-      let was = h.drawn task below (subst (λ (n : ℕ). 1 ≤ n + slice_index published task) (sym (same task)) some) in
-      (was.0, omega arith, was.2, none was.0 was.1 was.3);
-  apart = λ task. subst (λ (n : ℕ). n ≤ 1) (same task) (h.apart task);
-  told = λ task some. h.told task (subst (λ (n : ℕ). 1 ≤ n) (sym (same task)) some) ∙ told task;
-}

@@ -1,9 +1,10 @@
 -- A seat that draws a place of the ring for a task leaves a sound state.
 use Rattle.std.proofs.Common.{◌≡◌, ◌∙◌, ◌≢◌, ◌≤◌, ◌<◌, ◌+◌, ℕ, Bool, true, cond, not, Option, Some, None, ◌⊎◌, inl, inr, List, ap, sym, refl, subst, arith}
 use Rattle.std.specs.Prelude.{◌==◌, ◌&&◌, slice_get, slice_set, slice_index}
-use Rattle.std.proofs.lemmas.Bool.{cases_eq, cases_lt, eq-eqb, ne_eqb, ltb-true, and_from, and_left, and_right, and_parts}
+use Rattle.std.proofs.lemmas.Bool.{cases_eq, cases_lt, eq-eqb, ne_eqb, and_from, and_left, and_right, and_parts}
 use Rattle.std.proofs.lemmas.List.Sums.{sum_by-le-sum_by}
 use Rattle.graph_types.specs.declared.graph.Graph.{Graph}
+use Rattle.graph_types.specs.Counting.{count_one}
 use Rattle.graph_types.specs.Graph.{follows}
 use Rattle.sched_core.specs.declared.act.Act.{Act}
 use Rattle.sched_core.specs.declared.act.Act.TheVariants as act
@@ -14,16 +15,15 @@ use Rattle.sched_core.specs.declared.view.View.TheVariants as view
 use Rattle.sched_core.specs.declared.state.Core.{Core}
 use Rattle.sched_core.specs.Core.{script, act_passes, is_at, number_at, is_behind, is_scrub, is_put_at, is_in_hand, is_anything, does_something, closes, publishes, lowers_use, lowers_successor}
 use Rattle.sched_core.specs.Sound.{may_owe, Ring, IsFilled, StandsBelow, IsSound, is_unwritten}
-use Rattle.sched_core.proofs.Lists.{number_false, counts_one}
+use Rattle.sched_core.proofs.Lists.{number_false}
 use Rattle.sched_core.proofs.Seats.{IsSeat, count_same, count_more, count_at_least}
-use Rattle.sched_core.proofs.Frames.{SameBehind, dependencies_framed, uses_framed, done_framed, slots_alike}
+use Rattle.sched_core.proofs.Frames.{SameBehind, dependencies_framed, uses_framed, done_framed, slots_alike, IsSeatSound, seats_as, sound_of}
 use Rattle.sched_core.proofs.Scripts.{reads_lower_none}
-use Rattle.sched_core.proofs.Facts.{seat_fits, zero_or_more, one_or_less}
-use Rattle.sched_core.proofs.LoweringDeps.{successor_below}
-use Rattle.sched_core.proofs.Moving.{finished_stay}
-use Rattle.sched_core.proofs.Going.{IsSeatSound, goes_on}
+use Rattle.sched_core.proofs.Facts.{runs_task, zero_or_more, one_or_less}
+use Rattle.sched_core.proofs.LoweringDeps.{follower}
+use Rattle.sched_core.proofs.Moving.{number_kept, kept_behind, undue, closing_same}
+use Rattle.sched_core.proofs.Going.{goes_on}
 use Rattle.sched_core.proofs.Unwritten.{unpublished_keeps}
-use Rattle.sched_core.proofs.SoundMoves.{number_kept}
 use Rattle.sched_core.proofs.SoundRoom.{room}
 
 -- who owes a task to a place stands at an act there
@@ -49,7 +49,7 @@ module _ (c : Core) (sound : IsSound c) where
     by_word : (slice_index c.published before ≡ 1) ⊎ (slice_index c.published before ≡ 1 → ⊥) → slice_index c.published before ≡ 1
     by_word (inl read) = read
     by_word (inr unread) =
-        let waits = counts_one (λ t. follows c.graph t task && not (is_behind c.graph c.published c.views (lowers_successor task) t)) c.graph.tasks before lt'
+        let waits = count_one (λ t. follows c.graph t task && not (is_behind c.graph c.published c.views (lowers_successor task) t)) c.graph.tasks before lt'
         (and_from _ _ after (ap not (unpublished_keeps c sound (lowers_successor task) (reads_lower_none task) before unread))) in
         absurd (omega (arith, waits, sound.dependencies.counts task lt, none))
 
@@ -65,23 +65,16 @@ module _ (c : Core) (sound : IsSound c) where
 
 module _ (c : Core) (seat task at e : ℕ) (is : IsSeat c.views seat (view.Running task at due.Place)) (stands : slice_get (script c.graph task) at ≡ Some (act.LowersSuccessor e)) (sound : IsSound c) where
   below : task < c.graph.tasks
-  below = ltb-true _ _ (and_parts _ _ (seat_fits c sound seat (view.Running task at due.Place) is)).0
+  below = runs_task c sound seat task at due.Place is
 
   successor : e < c.graph.tasks
-  successor = successor_below c.graph sound.graph task at e below stands
+  successor = (follower c.graph sound.graph task at e below stands).there
 
   same_behind : SameBehind c.graph c.published c.published c.views (slice_set c.views seat (view.Running task at (due.Put c.tail)))
-  same_behind = record {
-    finished = finished_stay c seat task at at due.Place (due.Put c.tail) is sound c.published (λ t other. refl);
-    uses = λ t s. number_kept c seat task at at due.Place (due.Put c.tail) is sound (lowers_use s) refl t;
-    successors = λ t s. number_kept c seat task at at due.Place (due.Put c.tail) is sound (lowers_successor s) refl t;
-  }
+  same_behind = kept_behind c seat task at at due.Place (due.Put c.tail) is sound c.published (λ t other. refl) (λ s. refl) (λ t. refl)
 
   seats : IsSeatSound c (slice_set c.views seat (view.Running task at (due.Put c.tail)))
-  seats =
-      goes_on c seat task at at due.Place (due.Put c.tail) is sound
-      (and_from _ _ (and_parts _ _ (seat_fits c sound seat (view.Running task at due.Place) is)).0 (ap (may_owe (due.Put c.tail)) stands))
-      (number_kept c seat task at at due.Place (due.Put c.tail) is sound publishes refl)
+  seats = goes_on c seat task at at due.Place (due.Put c.tail) is sound (ap (may_owe (due.Put c.tail)) stands) (number_kept c seat task at at due.Place (due.Put c.tail) is sound publishes refl)
 
   -- the task is in hand before and after
   hand_before : 1 ≤ number_at c.graph c.views is_in_hand (lowers_successor e)
@@ -156,23 +149,17 @@ module _ (c : Core) (seat task at e : ℕ) (is : IsSeat c.views seat (view.Runni
     ordered = λ p t before there lt after. ordered p t before (cases_eq p c.tail) there lt after;
   }
 
-  closing_same : (s : ℕ) → number_at c.graph c.views is_anything (closes s) ≡ number_at c.graph (slice_set c.views seat (view.Running task at (due.Put c.tail))) is_anything (closes s)
-  closing_same s = sym (count_same c.views seat (view.Running task at due.Place) (view.Running task at (due.Put c.tail)) is (is_at c.graph is_anything (closes s)) refl)
-
-  scrubbing_same : (s : ℕ) → number_at c.graph c.views is_scrub (lowers_use s) ≡ number_at c.graph (slice_set c.views seat (view.Running task at (due.Put c.tail))) is_scrub (lowers_use s)
-  scrubbing_same s = sym (count_same c.views seat (view.Running task at due.Place) (view.Running task at (due.Put c.tail)) is (is_at c.graph is_scrub (lowers_use s)) refl)
+  closing_none : (s : ℕ) → number_at c.graph c.views is_anything (closes s) ≡ number_at c.graph (slice_set c.views seat (view.Running task at (due.Put c.tail))) is_anything (closes s)
+  closing_none = closing_same c seat task at at due.Place (due.Put c.tail) is sound (λ s. ap (act_passes (closes s)) stands) (λ s. ap (act_passes (closes s)) stands)
 
   pub place_sound : IsSound (record c { tail = c.tail + 1; views = slice_set c.views seat (view.Running task at (due.Put c.tail)) })
-  place_sound = record {
-    graph = sound.graph;
-    shapes = seats.shapes;
-    tickets = seats.tickets;
-    ring = ring_now;
-    running = seats.running;
-    dependencies = dependencies_framed c.graph c.published c.published c.views (slice_set c.views seat (view.Running task at (due.Put c.tail))) same_behind c.dep sound.dependencies;
-    uses = uses_framed c.graph c.published c.published c.views (slice_set c.views seat (view.Running task at (due.Put c.tail))) same_behind c.left sound.uses;
-    slots = slots_alike c.graph c.left c.turn c.home (is_unwritten c.graph c.published) c.views (slice_set c.views seat (view.Running task at (due.Put c.tail))) closing_same scrubbing_same sound.slots;
-    done = done_framed c.graph c.published c.published c.views (slice_set c.views seat (view.Running task at (due.Put c.tail))) same_behind c.done sound.done;
-    head = seats.head;
-    nothing_lost = seats.nothing_lost;
-  }
+  place_sound =
+      let views = slice_set c.views seat (view.Running task at (due.Put c.tail)) in
+      sound_of (record c { tail = c.tail + 1 }) views sound.graph (record {
+        ring = ring_now;
+        dependencies = dependencies_framed c.graph c.published c.published c.views views same_behind c.dep sound.dependencies;
+        uses = uses_framed c.graph c.published c.published c.views views same_behind c.left sound.uses;
+        slots = slots_alike c.graph c.left c.turn c.home (is_unwritten c.graph c.published) c.views views closing_none
+            (λ s. undue c seat task at at due.Place (due.Put c.tail) is sound is_scrub refl refl (lowers_use s)) sound.slots;
+        done = done_framed c.graph c.published c.published c.views views same_behind c.done sound.done;
+      }) (seats_as c (c.tail + 1) c.dep c.left c.turn c.home views refl refl refl refl sound.shapes.turn_words seats)

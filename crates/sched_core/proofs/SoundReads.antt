@@ -1,19 +1,16 @@
 -- A task that opens or closes a slot reads it, and has met nothing that stands behind its reads.
-use Rattle.std.proofs.Common.{◌≡◌, ◌∙◌, ◌≤◌, ◌+◌, ℕ, zero, suc, Bool, true, false, List, [], ◌∷◌, ◌++◌, map, take, Some, ap, sym, refl, arith}
+use Rattle.std.proofs.Common.{◌≡◌, ◌∙◌, ◌≤◌, ◌+◌, ℕ, zero, suc, Bool, true, false, List, [], ◌∷◌, ◌++◌, take, Some, ap, sym, refl, arith}
 use Rattle.std.specs.Prelude.{◌||◌, ◌==◌, slice_get}
 use Rattle.std.specs.List.{flat_map, list_any}
+use Rattle.std.proofs.Math.Bool.{or-false}
 use Rattle.std.proofs.lemmas.Bool.{false≢true, or_parts, or_from}
 use Rattle.std.proofs.lemmas.List.Folds.{list_any-append}
 use Rattle.graph_types.specs.declared.graph.Graph.{Graph}
-use Rattle.graph_types.specs.Graph.{reads_of, writes_of, successors_of, reads, has}
+use Rattle.graph_types.specs.Graph.{reads_of, reads, has}
 use Rattle.sched_core.specs.declared.act.Act.{Act}
-use Rattle.sched_core.specs.declared.act.Act.TheVariants.{Opens, Closes, Publishes, LowersUse, LowersSuccessor, Finishes}
+use Rattle.sched_core.specs.declared.act.Act.TheVariants.{Opens, Closes, Publishes, Finishes}
 use Rattle.sched_core.specs.Core.{reading, lowering, script}
-use Rattle.sched_core.proofs.Progress.{stands_in}
-
-pub or_false : (b : Bool) → (b || false) ≡ b
-or_false true = refl
-or_false false = refl
+use Rattle.sched_core.proofs.Scripts.{stands_in, none_behind_reads}
 
 -- it opens or closes the slot
 abbrev pub touches : (slot : ℕ) → Act → Bool
@@ -28,20 +25,8 @@ touches_read slot (s ∷ slots) = ap (λ (b : Bool). (s == slot) || ((s == slot)
   twice true b = refl
   twice false b = refl
 
-touches_no_use : (slot : ℕ) (slots : List ℕ) → list_any (touches slot) (map LowersUse slots) ≡ false
-touches_no_use slot [] = refl
-touches_no_use slot (s ∷ slots) = touches_no_use slot slots
-
-touches_no_successor : (slot : ℕ) (tasks : List ℕ) → list_any (touches slot) (map LowersSuccessor tasks) ≡ false
-touches_no_successor slot [] = refl
-touches_no_successor slot (t ∷ tasks) = touches_no_successor slot tasks
-
 touches_none : (g : Graph) (task slot : ℕ) → list_any (touches slot) (Publishes ∷ (lowering g task ++ (Finishes ∷ []))) ≡ false
-touches_none g task slot =
-    list_any-append (touches slot) (lowering g task) (Finishes ∷ [])
-    ∙ ap (λ (b : Bool). b || false) (list_any-append (touches slot) (map LowersUse (reads_of g task ++ writes_of g task)) (map LowersSuccessor (successors_of g task))
-    ∙ ap (λ (b : Bool). b || list_any (touches slot) (map LowersSuccessor (successors_of g task))) (touches_no_use slot (reads_of g task ++ writes_of g task))
-    ∙ touches_no_successor slot (successors_of g task))
+touches_none g task slot = none_behind_reads g task (touches slot) (λ s. refl) (λ t. refl) refl refl
 
 -- what a task opens or closes, it reads
 pub touched_read : (g : Graph) (task at slot : ℕ) (act : Act) → slice_get (script g task) at ≡ Some act → touches slot act ≡ true → reads g task slot ≡ true
@@ -49,7 +34,7 @@ unfolding script
 touched_read g task at slot act h met =
     sym (list_any-append (touches slot) (flat_map reading (reads_of g task)) (Publishes ∷ (lowering g task ++ (Finishes ∷ [])))
     ∙ ap (λ (b : Bool). list_any (touches slot) (flat_map reading (reads_of g task)) || b) (touches_none g task slot)
-    ∙ or_false (list_any (touches slot) (flat_map reading (reads_of g task)))
+    ∙ or-false (list_any (touches slot) (flat_map reading (reads_of g task)))
     ∙ touches_read slot (reads_of g task))
     ∙ stands_in (touches slot) (flat_map reading (reads_of g task) ++ (Publishes ∷ (lowering g task ++ (Finishes ∷ [])))) at act h met
 

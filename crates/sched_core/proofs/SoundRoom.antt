@@ -5,6 +5,7 @@ use Rattle.std.specs.List.{count_by, sum_by, range_with_len}
 use Rattle.std.proofs.lemmas.Bool.{false≢true, eq-eqb, eqb-true, ltb-true, and_parts}
 use Rattle.std.proofs.lemmas.List.Elements.{All-set, All-weaker}
 use Rattle.graph_types.specs.declared.graph.Graph.{Graph}
+use Rattle.graph_types.specs.Counting.{count_one}
 use Rattle.graph_types.specs.Graph.{tasks_of, IsValid}
 use Rattle.sched_core.specs.declared.act.Act.{Act}
 use Rattle.sched_core.specs.declared.act.Act.TheVariants as act
@@ -14,9 +15,9 @@ use Rattle.sched_core.specs.declared.view.View.TheVariants as view
 use Rattle.sched_core.specs.declared.state.Core.{Core}
 use Rattle.sched_core.specs.Core.{script, act_passes, is_at, number_at, is_put_at, is_in_hand, does_something, lowers_successor}
 use Rattle.sched_core.specs.Sound.{is_in_shape, may_owe, IsFilled, number_in, IsSound}
-use Rattle.sched_core.proofs.Lists.{number_le, counts_one}
+use Rattle.sched_core.proofs.Lists.{number_le}
 use Rattle.sched_core.proofs.Seats.{IsSeat, summed}
-use Rattle.sched_core.proofs.LoweringDeps.{successor_below}
+use Rattle.sched_core.proofs.LoweringDeps.{follower}
 use Rattle.sched_core.proofs.SoundSums.{sum_zero, sum_add, sum_swap, sum_less, sum_at_most, sum_at_least, counts_few, sum_front}
 
 -- to how many places below tail a view owes a task
@@ -30,7 +31,7 @@ in_hands g v = count_by (λ t. is_at g is_in_hand (lowers_successor t) v) (tasks
 module _ (g : Graph) (valid : IsValid g) (tail : ℕ) where
   has_hand : (task at e : ℕ) → task < g.tasks → slice_get (script g task) at ≡ Some (act.LowersSuccessor e) → 1 ≤ in_hands g (view.Running task at due.Place)
   has_hand task at e lt stands =
-      counts_one (λ t. is_at g is_in_hand (lowers_successor t) (view.Running task at due.Place)) g.tasks e (successor_below g valid task at e lt stands) (ap (act_passes (lowers_successor e)) stands ∙ eq-eqb e e refl)
+      count_one (λ t. is_at g is_in_hand (lowers_successor t) (view.Running task at due.Place)) g.tasks e (follower g valid task at e lt stands).there (ap (act_passes (lowers_successor e)) stands ∙ eq-eqb e e refl)
 
   owes_less : (v : View) → is_in_shape g v ≡ true → owes g tail v ≤ in_hands g v
   owes_less (view.Running task at (due.Put q)) fits = by_act (slice_get (script g task) at) refl (and_parts _ _ fits).1 where
@@ -40,7 +41,7 @@ module _ (g : Graph) (valid : IsValid g) (tail : ℕ) where
     by_act : (o : Option Act) → slice_get (script g task) at ≡ o → may_owe (due.Put q) o ≡ true → owes g tail (view.Running task at (due.Put q)) ≤ in_hands g (view.Running task at (due.Put q))
     by_act (Some (act.LowersSuccessor e)) stands h =
         let some : 1 ≤ in_hands g (view.Running task at (due.Put q)) =
-        counts_one (λ t. is_at g is_in_hand (lowers_successor t) (view.Running task at (due.Put q))) g.tasks e (successor_below g valid task at e (ltb-true _ _ (and_parts _ _ fits).0) stands) (ap (act_passes (lowers_successor e)) stands ∙ eq-eqb e e refl) in
+        count_one (λ t. is_at g is_in_hand (lowers_successor t) (view.Running task at (due.Put q))) g.tasks e (follower g valid task at e (ltb-true _ _ (and_parts _ _ fits).0) stands).there (ap (act_passes (lowers_successor e)) stands ∙ eq-eqb e e refl) in
         omega (arith, one, some)
     by_act (Some act.Publishes) stands h = absurd (false≢true h)
     by_act (Some act.Finishes) stands h = absurd (false≢true h)
@@ -93,7 +94,7 @@ module _ (c : Core) (seat task at e : ℕ) (is : IsSeat c.views seat (view.Runni
   each_filled p lt = by_place (sound.ring.filled p lt) where
     by_place : IsFilled c.graph.tasks (slice_index c.ring p) (number_at c.graph c.views (is_put_at p) does_something) → 1 ≤ stands_for (slice_index c.ring p) + number_at c.graph c.views (is_put_at p) does_something
     by_place (inl (some, le, none)) =
-        let one : 1 ≤ stands_for (slice_index c.ring p) = counts_one (λ t. slice_index c.ring p == t + 1) c.graph.tasks (slice_index c.ring p - 1) (omega (arith, some, le)) (eq-eqb _ _ (omega (arith, some))) in
+        let one : 1 ≤ stands_for (slice_index c.ring p) = count_one (λ t. slice_index c.ring p == t + 1) c.graph.tasks (slice_index c.ring p - 1) (omega (arith, some, le)) (eq-eqb _ _ (omega (arith, some))) in
         omega (arith, one)
     by_place (inr (none, one)) = omega (arith, one)
 

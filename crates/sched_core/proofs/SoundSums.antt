@@ -1,11 +1,12 @@
 -- Sums over numbers below a bound, and sums of sums.
-use Rattle.std.proofs.Common.{◌≡◌, ◌∙◌, ◌≤◌, ◌<◌, ◌+◌, ℕ, zero, suc, Bool, true, false, cond, ◌⊎◌, inl, inr, List, [], ◌∷◌, ◌++◌, length, take, ap, sym, refl, arith}
+use Rattle.std.proofs.Common.{◌≡◌, ◌∙◌, ◌≤◌, ◌<◌, ◌+◌, ℕ, zero, suc, Bool, true, false, cond, ◌⊎◌, inl, inr, List, [], ◌∷◌, length, take, ap, sym, refl, arith}
 use Rattle.std.specs.Prelude.{slice_index, All}
 use Rattle.std.specs.List.{count_by, sum_by, range_with_len}
 use Rattle.std.proofs.lemmas.Bool.{cases_eq, cases_Bool}
 use Rattle.std.proofs.lemmas.List.Elements.{All-head, All-tail}
 use Rattle.std.proofs.lemmas.List.Sums.{sum_by-cons, sum_by_push, sum_by_more, sum_by-take-le}
-use Rattle.sched_core.proofs.Lists.{number_le, number_false, range_push}
+use Rattle.graph_types.specs.Counting.{range_suc}
+use Rattle.sched_core.proofs.Lists.{number_le, number_false}
 
 pub sum_zero : {A : Type 0} (xs : List A) → sum_by (λ x. 0) xs ≡ 0
 sum_zero [] = refl
@@ -35,11 +36,7 @@ sum_less f h (x ∷ xs) all = omega (arith, sum_by-cons f x xs, sum_by-cons h x 
 
 -- Sums over the numbers below a bound.
 sum_push : (f : ℕ → ℕ) (n : ℕ) → sum_by f (range_with_len 0 (suc n)) ≡ sum_by f (range_with_len 0 n) + f n
-sum_push f n =
-    ap (λ (k : ℕ). sum_by f (range_with_len 0 k)) (let e : suc n ≡ n + 1 = omega arith in e)
-    ∙ ap (sum_by f) (range_push 0 n)
-    ∙ ap (λ (k : ℕ). sum_by f (range_with_len 0 n ++ k ∷ [])) (let e : 0 + n ≡ n = omega arith in e)
-    ∙ sum_by_push f (range_with_len 0 n) n
+sum_push f n = ap (sum_by f) (range_suc n) ∙ sum_by_push f (range_with_len 0 n) n
 
 pub sum_at_most : (f : ℕ → ℕ) (n : ℕ) → ((k : ℕ) → k < n → f k ≤ 1) → sum_by f (range_with_len 0 n) ≤ n
 sum_at_most f zero h = omega arith

@@ -1,27 +1,27 @@
 -- The core at the start of a step is sound.
-use Rattle.std.proofs.Common.{◌≡◌, ◌∙◌, ◌≢◌, ◌≤◌, ◌<◌, ◌+◌, ◌-◌, ◌*◌, ◌↔◌, ℕ, zero, suc, Bool, true, false, cond, not, List, [], ◌∷◌, ◌++◌, map, ◌⊎◌, inl, inr, length, get_or, ap, sym, refl, subst, arith, length-append, zero-add}
+use Rattle.std.proofs.Common.{◌≡◌, ◌∙◌, ◌≤◌, ◌<◌, ◌+◌, ◌-◌, ◌*◌, ℕ, zero, suc, Bool, true, false, cond, not, List, [], ◌∷◌, map, ◌⊎◌, inl, inr, length, get_or, ap, sym, refl, subst, arith, length-append, zero-add}
 use Rattle.std.specs.Prelude.{◌==◌, ◌&&◌, ◌||◌, All, IsTrue, filter, replicate, nat_lt, slice_index, slice_index_or}
 use Rattle.std.specs.List.{count_by, sum_by, list_any, range_with_len}
-use Rattle.std.proofs.lemmas.Bool.{false≢true, cases_Bool, cases_eq, cases_lt, eq-eqb, eqb-true, ne_eqb, and_from, and_left, and_right, or_right}
+use Rattle.std.proofs.Math.Bool.{and-true}
+use Rattle.std.proofs.lemmas.Bool.{false≢true, cases_Bool, cases_eq, cases_lt, eq-eqb, eqb-true, ne_eqb, and_from, and_left, and_right}
 use Rattle.std.proofs.lemmas.List.{length-map, length-replicate, get_or-replicate, get_or_past, get_or-append-add, get_or_append_left}
-use Rattle.std.proofs.lemmas.List.Elements.{All-get_or, All-replicate, All-cons, All-map, All-from_get_or}
+use Rattle.std.proofs.lemmas.List.Elements.{All-get_or, All-replicate, All-cons, All-filter, All-map, All-from_get_or, filter_passes}
 use Rattle.std.proofs.lemmas.List.FromFn.{length-range_with_len}
 use Rattle.std.proofs.lemmas.List.Folds.{sum_by-replicate}
 use Rattle.std.proofs.lemmas.List.Sums.{sum_by-cons, sum_by-append, count_by-le-length, length-filter}
 use Rattle.graph_types.specs.declared.graph.Graph.{Graph}
-use Rattle.graph_types.specs.Graph.{IsValid, tasks_of, writes_of, reads, writes, follows, readers, writers, has, is_kept}
+use Rattle.graph_types.specs.Counting.{all_below, count_alike, count_one, count_suc}
+use Rattle.graph_types.specs.Facts.{reader_follows}
+use Rattle.graph_types.specs.Graph.{IsValid, tasks_of, reads, writes, follows, readers, writers, is_kept}
 use Rattle.sched_core.specs.declared.act.Act.{Act}
-use Rattle.sched_core.specs.declared.view.Due.{Due}
 use Rattle.sched_core.specs.declared.view.View.{View}
 use Rattle.sched_core.specs.declared.state.Core.{Core}
 use Rattle.sched_core.specs.declared.view.View.TheVariants.{Unmade, Idle}
-use Rattle.sched_core.specs.Core.{holders, runners, number_at, number_behind, is_finished, is_behind, holds, runs, is_at, has_behind, is_put_at, is_in_hand, is_anything, is_scrub, does_something, closes, publishes, lowers_use, lowers_successor, gone_of, halted_of, seats_of}
+use Rattle.sched_core.specs.Core.{number_at, number_behind, is_finished, is_behind, holds, runs, is_at, has_behind, is_put_at, is_in_hand, is_anything, is_scrub, does_something, closes, lowers_use, lowers_successor, gone_of, halted_of, seats_of}
 use Rattle.sched_core.specs.Start.{start, first_tasks, first_words}
-use Rattle.sched_core.specs.Sound.{is_in_shape, IsFilled, StandsBelow, IsDrawn, HasBegun, SlotStands, Unwritten, Free, number_in, is_unwritten, IsSound}
-use Rattle.sched_core.proofs.Lists.{number, number_true, number_false, counts_alike, counts_but_one, counts_one, below_push}
-use Rattle.sched_core.proofs.Publishing.{any_below, none_below}
-use Rattle.sched_core.proofs.Once.{passes_in}
-use Rattle.sched_core.proofs.LoweringDeps.{filtered, among_filtered, among_below}
+use Rattle.sched_core.specs.Sound.{is_in_shape, StandsBelow, SlotStands, Unwritten, Free, number_in, is_unwritten, IsSound}
+use Rattle.sched_core.proofs.Lists.{number, number_true, number_false, any_below, none_below, counts_but_one}
+use Rattle.sched_core.proofs.SoundSums.{sum_zero}
 
 -- a sum over them
 sum_at : (f : View → ℕ) (seats : ℕ) → sum_by f (Idle ∷ replicate (seats - 1) Unmade) ≡ f Idle + (seats - 1) * f Unmade
@@ -29,9 +29,6 @@ sum_at f seats = sum_by-cons f Idle (replicate (seats - 1) Unmade) ∙ ap (λ (n
 
 none_at : (f : View → ℕ) (seats : ℕ) → f Idle ≡ 0 → f Unmade ≡ 0 → sum_by f (Idle ∷ replicate (seats - 1) Unmade) ≡ 0
 none_at f seats idle unmade = sum_at f seats ∙ ap (λ (n : ℕ). n + (seats - 1) * f Unmade) idle ∙ ap (λ (n : ℕ). 0 + (seats - 1) * n) unmade ∙ omega arith
-
-counts_none : (test : View → Bool) (seats : ℕ) → test Idle ≡ false → test Unmade ≡ false → count_by test (Idle ∷ replicate (seats - 1) Unmade) ≡ 0
-counts_none test seats idle unmade = none_at (λ v. cond (test v) 1 0) seats (number_false (test Idle) idle) (number_false (test Unmade) unmade)
 
 -- words that are all 0
 zeros : (n i : ℕ) → slice_index (replicate n 0) i ≡ 0
@@ -44,25 +41,13 @@ zeros n i = by_order (cases_lt i n) where
 count_either : (p q : ℕ → Bool) (n : ℕ) → ((k : ℕ) → k < n → p k ≡ true → q k ≡ false) → count_by (λ k. p k || q k) (range_with_len 0 n) ≡ count_by p (range_with_len 0 n) + count_by q (range_with_len 0 n)
 count_either p q zero apart = refl
 count_either p q (suc n) apart =
-    omega (arith, below_push (λ k. p k || q k) n, below_push p n, below_push q n, count_either p q n (λ k lt. apart k (omega arith)), one (p n) (q n) (apart n (omega arith)))
+    omega (arith, count_suc (λ k. p k || q k) n, count_suc p n, count_suc q n, count_either p q n (λ k lt. apart k (omega arith)), one (p n) (q n) (apart n (omega arith)))
   where
     one : (a b : Bool) → (a ≡ true → b ≡ false) → cond (a || b) 1 0 ≡ number a + number b
     one true true h = absurd (false≢true (sym (h refl)))
     one true false h = refl
     one false true h = refl
     one false false h = refl
-
-sum_by_none : (xs : List ℕ) → count_by (λ t. false) xs ≡ 0
-sum_by_none [] = refl
-sum_by_none (x ∷ xs) = sum_by-cons (λ t. cond false 1 0) x xs ∙ sum_by_none_plus (sum_by_none xs) where
-  sum_by_none_plus : {n : ℕ} → n ≡ 0 → 0 + n ≡ 0
-  sum_by_none_plus h = omega arith
-
--- an element is among its list
-has_at : (xs : List ℕ) (i : ℕ) → i < length xs → has xs (get_or xs i 0) ≡ true
-has_at [] i lt = absurd (omega arith)
-has_at (x ∷ xs) zero lt = ap (λ (b : Bool). b || has xs x) (eq-eqb x x refl)
-has_at (x ∷ xs) (suc i) lt = or_right (x == get_or xs i 0) (has xs (get_or xs i 0)) (has_at xs i (omega arith))
 
 -- the words of the first tasks
 word_of : (p : ℕ → Bool) (xs : List ℕ) (e : ℕ) → count_by (λ w. w == e + 1) (map (λ t. t + 1) (filter p xs)) ≡ count_by (λ t. p t && (t == e)) xs
@@ -98,9 +83,9 @@ are_first p n = All-map (λ w. (1 ≤ w) × (w ≤ n) × (p (w - 1) ≡ true)) (
   each_of : (i : ℕ) → i < length (filter p (range_with_len 0 n)) → (1 ≤ get_or (filter p (range_with_len 0 n)) i 0 + 1) × (get_or (filter p (range_with_len 0 n)) i 0 + 1 ≤ n) × (p ((get_or (filter p (range_with_len 0 n)) i 0 + 1) - 1) ≡ true)
   each_of i lt =
       let t = get_or (filter p (range_with_len 0 n)) i 0 in
-      let in_list : has (filter p (range_with_len 0 n)) t ≡ true = has_at (filter p (range_with_len 0 n)) i lt in
-      let below = among_below n t (among_filtered p (range_with_len 0 n) t in_list) in
-      (omega arith, omega arith, ap p (let e : (t + 1) - 1 ≡ t = omega arith in e) ∙ filtered p (range_with_len 0 n) t in_list)
+      let below : t < n = All-get_or (λ k. k < n) (filter p (range_with_len 0 n)) i 0 lt (All-filter p (λ k. k < n) (range_with_len 0 n) (all_below n)) in
+      let passes : p t ≡ true = All-get_or (λ k. p k ≡ true) (filter p (range_with_len 0 n)) i 0 lt (filter_passes p (range_with_len 0 n)) in
+      (omega arith, omega arith, ap p (let e : (t + 1) - 1 ≡ t = omega arith in e) ∙ passes)
 
 module _ (g : Graph) (valid : IsValid g) (seats : ℕ) (some : 1 ≤ seats) (few : seats ≤ 64) where
   few_words : length (first_words g) ≤ g.tasks
@@ -119,7 +104,7 @@ module _ (g : Graph) (valid : IsValid g) (seats : ℕ) (some : 1 ≤ seats) (few
   word_at place lt = All-get_or (λ w. (1 ≤ w) × (w ≤ g.tasks) × ((slice_index g.predecessors (w - 1) == 0) ≡ true)) (first_words g) place 0 lt (are_first (λ t. slice_index g.predecessors t == 0) g.tasks)
 
   nobody : (test : View → Bool) → test Idle ≡ false → test Unmade ≡ false → count_by test (start g seats).views ≡ 0
-  nobody test idle unmade = counts_none test seats idle unmade
+  nobody test idle unmade = none_at (λ v. cond (test v) 1 0) seats (number_false (test Idle) idle) (number_false (test Unmade) unmade)
 
   unfinished : (t : ℕ) → is_finished (start g seats).published (start g seats).views t ≡ false
   unfinished t = and_left _ _ (ne_eqb (slice_index (replicate g.tasks 0) t) 1 (λ z. omega (arith, zeros g.tasks t)))
@@ -143,10 +128,10 @@ module _ (g : Graph) (valid : IsValid g) (seats : ℕ) (some : 1 ≤ seats) (few
       by_test : ((slice_index g.predecessors e == 0) ≡ true) ⊎ ((slice_index g.predecessors e == 0) ≡ false) → count_by (λ t. (slice_index g.predecessors t == 0) && (t == e)) (tasks_of g) ≡ cond (slice_index g.predecessors e == 0) 1 0
       by_test (inl met) =
           counts_but_one (λ t. (slice_index g.predecessors t == 0) && (t == e)) (λ t. false) g.tasks e lt (and_from _ _ met (eq-eqb e e refl)) refl (λ t within other. and_right _ _ (ne_eqb t e other))
-          ∙ omega (arith, sum_by_none (tasks_of g), number_true (slice_index g.predecessors e == 0) met)
+          ∙ omega (arith, sum_zero (tasks_of g), number_true (slice_index g.predecessors e == 0) met)
       by_test (inr unmet) =
-          counts_alike (λ t. (slice_index g.predecessors t == 0) && (t == e)) (λ t. false) g.tasks (λ t within. each t (cases_eq t e))
-          ∙ omega (arith, sum_by_none (tasks_of g), number_false (slice_index g.predecessors e == 0) unmet)
+          count_alike (λ t. (slice_index g.predecessors t == 0) && (t == e)) (λ t. false) g.tasks (λ t within. each t (cases_eq t e))
+          ∙ omega (arith, sum_zero (tasks_of g), number_false (slice_index g.predecessors e == 0) unmet)
         where
           each : (t : ℕ) → (t ≡ e) ⊎ (t ≡ e → ⊥) → ((slice_index g.predecessors t == 0) && (t == e)) ≡ false
           each t (inl is) = and_left _ _ (ap (λ (u : ℕ). slice_index g.predecessors u == 0) is ∙ unmet)
@@ -162,16 +147,13 @@ module _ (g : Graph) (valid : IsValid g) (seats : ℕ) (some : 1 ≤ seats) (few
         let is : slice_index (first_words g) place ≡ task + 1 = sym (ring_below place within) ∙ stands in
         let less : slice_index (first_words g) place - 1 ≡ task = omega arith in
         let none : slice_index g.predecessors task ≡ 0 = eqb-true _ _ (sym (ap (λ (t : ℕ). slice_index g.predecessors t == 0) less) ∙ word.2) in
-        omega (arith, none, waiting task (omega arith), counts_one (λ first. follows g first task) g.tasks before lt after)
+        omega (arith, none, waiting task (omega arith), count_one (λ first. follows g first task) g.tasks before lt after)
 
   slot_stands : (slot : ℕ) → slot < g.slots →
       SlotStands (is_unwritten g (start g seats).published slot) (slice_index g.uses slot) (slice_index (start g seats).turn slot) (slice_index_or (start g seats).home slot false) (number_at g (start g seats).views is_anything (closes slot)) (number_at g (start g seats).views is_scrub (lowers_use slot))
   slot_stands slot within = by_age (cases_lt slot g.old) where
     unpublished : (t : ℕ) → (writes g t slot && not (slice_index (start g seats).published t == 1)) ≡ writes g t slot
-    unpublished t = ap (λ (w : ℕ). writes g t slot && not (w == 1)) (zeros g.tasks t) ∙ and_true (writes g t slot) where
-      and_true : (b : Bool) → (b && true) ≡ b
-      and_true true = refl
-      and_true false = refl
+    unpublished t = ap (λ (w : ℕ). writes g t slot && not (w == 1)) (zeros g.tasks t) ∙ and-true (writes g t slot)
 
     nobody_closes : number_at g (start g seats).views is_anything (closes slot) ≡ 0
     nobody_closes = nobody (is_at g is_anything (closes slot)) refl refl
@@ -185,7 +167,7 @@ module _ (g : Graph) (valid : IsValid g) (seats : ℕ) (some : 1 ≤ seats) (few
         nobody_closes
       where
         unwritten : (t : ℕ) → t < g.tasks → (writes g t slot ≡ true) ⊎ (writes g t slot ≡ false) → writes g t slot ≡ false
-        unwritten t lt (inl too) = absurd (omega (arith, counts_one (λ u. writes g u slot) g.tasks t lt too, valid.slots.unwritten slot old))
+        unwritten t lt (inl too) = absurd (omega (arith, count_one (λ u. writes g u slot) g.tasks t lt too, valid.slots.unwritten slot old))
         unwritten t lt (inr none) = none
     by_age (inr new) =
         Unwritten (some_writer (cases_Bool (list_any (λ t. writes g t slot && not (slice_index (start g seats).published t == 1)) (tasks_of g))))
@@ -199,7 +181,7 @@ module _ (g : Graph) (valid : IsValid g) (seats : ℕ) (some : 1 ≤ seats) (few
 
         some_writer : (list_any (λ t. writes g t slot && not (slice_index (start g seats).published t == 1)) (tasks_of g) ≡ true) ⊎ (list_any (λ t. writes g t slot && not (slice_index (start g seats).published t == 1)) (tasks_of g) ≡ false) → is_unwritten g (start g seats).published slot ≡ true
         some_writer (inl met) = met
-        some_writer (inr unmet) = absurd (omega (arith, valid.slots.written slot new within, counts_alike (λ t. writes g t slot) (λ t. false) g.tasks (λ t lt. none t lt (cases_Bool (writes g t slot))), sum_by_none (tasks_of g))) where
+        some_writer (inr unmet) = absurd (omega (arith, valid.slots.written slot new within, count_alike (λ t. writes g t slot) (λ t. false) g.tasks (λ t lt. none t lt (cases_Bool (writes g t slot))), sum_zero (tasks_of g))) where
           none : (t : ℕ) → t < g.tasks → (writes g t slot ≡ true) ⊎ (writes g t slot ≡ false) → writes g t slot ≡ false
           none t lt (inl too) = absurd (false≢true (sym unmet ∙ any_below _ g.tasks t lt (unpublished t ∙ too)))
           none t lt (inr fine) = fine
@@ -210,19 +192,15 @@ module _ (g : Graph) (valid : IsValid g) (seats : ℕ) (some : 1 ≤ seats) (few
         arith,
         valid.slots.uses slot within,
         either,
-        counts_alike (λ t. (reads g t slot || writes g t slot) && not (is_behind g (start g seats).published (start g seats).views (lowers_use slot) t)) (λ t. (reads g t slot || writes g t slot) && true) g.tasks
+        count_alike (λ t. (reads g t slot || writes g t slot) && not (is_behind g (start g seats).published (start g seats).views (lowers_use slot) t)) (λ t. (reads g t slot || writes g t slot) && true) g.tasks
             (λ t lt. ap (λ (b : Bool). (reads g t slot || writes g t slot) && not b) (unlowered (lowers_use slot) t)),
-        counts_alike (λ t. (reads g t slot || writes g t slot) && true) (λ t. reads g t slot || writes g t slot) g.tasks (λ t lt. and_true (reads g t slot || writes g t slot)),
+        count_alike (λ t. (reads g t slot || writes g t slot) && true) (λ t. reads g t slot || writes g t slot) g.tasks (λ t lt. and-true (reads g t slot || writes g t slot)),
       )
     where
-      and_true : (b : Bool) → (b && true) ≡ b
-      and_true true = refl
-      and_true false = refl
-
       apart : (t : ℕ) → t < g.tasks → reads g t slot ≡ true → writes g t slot ≡ false
       apart t lt read = by_test (cases_Bool (writes g t slot)) where
         by_test : (writes g t slot ≡ true) ⊎ (writes g t slot ≡ false) → writes g t slot ≡ false
-        by_test (inl written) = absurd (let forward = valid.order.forward t t lt lt (passes_in (reads g t) slot (writes_of g t) written read) in omega arith)
+        by_test (inl written) = absurd (let forward = valid.order.forward t t lt lt (reader_follows g t t slot written read) in omega arith)
         by_test (inr none) = none
 
       either : count_by (λ t. reads g t slot || writes g t slot) (tasks_of g) ≡ readers g slot + writers g slot
@@ -231,12 +209,8 @@ module _ (g : Graph) (valid : IsValid g) (seats : ℕ) (some : 1 ≤ seats) (few
   waits_at : (e : ℕ) → e < g.tasks → slice_index g.predecessors e ≡ count_by (λ first. follows g first e && not (is_behind g (start g seats).published (start g seats).views (lowers_successor e) first)) (tasks_of g)
   waits_at e lt =
       waiting e lt
-      ∙ counts_alike (λ first. follows g first e) (λ first. follows g first e && not (is_behind g (start g seats).published (start g seats).views (lowers_successor e) first)) g.tasks
-      (λ t within. sym (ap (λ (b : Bool). follows g t e && not b) (unlowered (lowers_successor e) t) ∙ and_true (follows g t e)))
-    where
-      and_true : (b : Bool) → (b && true) ≡ b
-      and_true true = refl
-      and_true false = refl
+      ∙ count_alike (λ first. follows g first e) (λ first. follows g first e && not (is_behind g (start g seats).published (start g seats).views (lowers_successor e) first)) g.tasks
+      (λ t within. sym (ap (λ (b : Bool). follows g t e && not b) (unlowered (lowers_successor e) t) ∙ and-true (follows g t e)))
 
   pub start_sound : IsSound (start g seats)
   start_sound = record {
@@ -272,7 +246,7 @@ module _ (g : Graph) (valid : IsValid g) (seats : ℕ) (some : 1 ≤ seats) (few
     dependencies = record { counts = waits_at };
     uses = record { counts = uses_at };
     slots = record { unused = λ slot due. absurd (omega (arith, nobody (is_at g is_scrub (lowers_use slot)) refl refl)); stands = slot_stands };
-    done = record { count = sym (counts_alike (is_finished (start g seats).published (start g seats).views) (λ t. false) g.tasks (λ t lt. unfinished t) ∙ sum_by_none (tasks_of g)) };
+    done = record { count = sym (count_alike (is_finished (start g seats).published (start g seats).views) (λ t. false) g.tasks (λ t lt. unfinished t) ∙ sum_zero (tasks_of g)) };
     head = record { drawn = omega arith; all = sum_at seats_of seats ∙ omega (arith, long) };
     nothing_lost = record {
       aborted = (λ set. absurd (omega (arith, set)), λ halted. absurd (omega (arith, none_at halted_of seats refl refl)));

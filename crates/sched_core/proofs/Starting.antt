@@ -1,11 +1,11 @@
 -- The first tasks, one task after the other.
-use Rattle.std.proofs.Common.{◌≡◌, ◌∙◌, ◌+◌, ℕ, Bool, cond, List, [], ◌∷◌, ◌++◌, map, ap, arith}
+use Rattle.std.proofs.Common.{◌≡◌, ◌∙◌, ◌+◌, ℕ, Bool, cond, List, [], ◌∷◌, ◌++◌, map, ap, add-one}
 use Rattle.std.specs.Prelude.{◌==◌, filter, slice_index}
 use Rattle.std.specs.List.{range_with_len}
 use Rattle.std.proofs.lemmas.Bool.{eq-eqb, ne_eqb, cond-true, cond-false}
 use Rattle.std.proofs.lemmas.List.{map-append, append-nil}
 use Rattle.std.proofs.lemmas.List.Elements.{filter-append}
-use Rattle.sched_core.proofs.Lists.{range_push}
+use Rattle.graph_types.specs.Counting.{range_suc}
 
 -- the words of the first tasks below a number
 abbrev pub first_below : (predecessors : List ℕ) → (task : ℕ) → List ℕ
@@ -15,8 +15,7 @@ one_more : (predecessors : List ℕ) (task : ℕ) → first_below predecessors (
 one_more predecessors task =
     let p : ℕ → Bool = λ t. slice_index predecessors t == 0 in
     let next : ℕ → ℕ = λ t. t + 1 in
-    ap (λ (ts : List ℕ). map next (filter p ts)) (range_push 0 task)
-    ∙ ap (λ (t : ℕ). map next (filter p (range_with_len 0 task ++ t ∷ []))) (let e : 0 + task ≡ task = omega arith in e)
+    ap (λ (ts : List ℕ). map next (filter p ts)) (ap (range_with_len 0) (add-one task) ∙ range_suc task)
     ∙ ap (map next) (filter-append p (range_with_len 0 task) (task ∷ []))
     ∙ map-append next (filter p (range_with_len 0 task)) (filter p (task ∷ []))
 

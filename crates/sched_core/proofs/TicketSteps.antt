@@ -13,9 +13,9 @@ use Rattle.sched_core.specs.declared.view.View.TheVariants as view
 use Rattle.sched_core.specs.declared.view.Doing.{Doing}
 use Rattle.sched_core.specs.declared.state.Core.{Core}
 use Rattle.sched_core.specs.Core.{doing, script, view_of}
-use Rattle.sched_core.specs.Step.{is_unmade, with_view, split, draw, seen, see, look_abort, abort, abort_before, finish, look_done, closed, joined, join, by_task}
+use Rattle.sched_core.specs.Step.{is_unmade, with_view, split, draw, seen, see, look_abort, abort, abort_before, finish, look_done, closed, joined, join, by_task, by_doing}
 use Rattle.sched_core.specs.Sound.{IsSound}
-use Rattle.sched_core.proofs.Seats.{seat_of}
+use Rattle.sched_core.proofs.Seats.{IsSeat, seat_of}
 use Rattle.sched_core.proofs.Drawing.{draw_sound}
 use Rattle.sched_core.proofs.Closing.{split_sound, halt_sound}
 use Rattle.sched_core.proofs.Beginning.{begins, begin_sound}
@@ -28,6 +28,17 @@ use Rattle.sched_core.proofs.Places.{is_doing}
 abbrev pub Leaves : Option Core → Type 0
 Leaves None = Unit {0}
 Leaves (Some next) = IsSound next
+
+-- A step by what the seat's task does leaves a sound state, where each of its effects does.
+pub by_task_leaves : (effect : Core → ℕ → Doing → Due → Act → Option Core) (c : Core) (seat : ℕ) →
+    ((d : Doing) (owed : Due) (a : Act) → IsSeat c.views seat (view.Running d.task d.at owed) → slice_get (script c.graph d.task) d.at ≡ Some a → Leaves (effect c seat d owed a)) →
+    Leaves (by_doing effect c seat)
+by_task_leaves effect c seat leaves = by_task_is (doing c.graph (view_of c seat)) refl where
+  by_task_is : (o : Option Doing) → doing c.graph (view_of c seat) ≡ o → Leaves (by_task effect c seat o)
+  by_task_is None is = tt
+  by_task_is (Some d) is =
+      let h = is_doing c.graph (view_of c seat) d is in
+      leaves d d.due d.act (seat_of c.views seat (view.Running d.task d.at d.due) h.0 (λ e. cc)) h.1
 
 module _ (c : Core) (sound : IsSound c) where
   pub split_leaves : (v : View) (unmade : Option ℕ) → position is_unmade c.views ≡ unmade → Leaves (split c v unmade)
@@ -70,17 +81,9 @@ module _ (c : Core) (sound : IsSound c) where
   abort_leaves seat (view.Running task at (due.Put place)) is = tt
   abort_leaves seat _ is = tt
 
-  pub finish_leaves : (seat : ℕ) (d : Option Doing) → doing c.graph (view_of c seat) ≡ d → Leaves (by_task finish c seat d)
-  finish_leaves seat None is = tt
-  finish_leaves seat (Some d) is = by_act d.due d.act refl refl where
-    at_place : (owed : Due) (a : Act) → d.due ≡ owed → d.act ≡ a → (view_of c seat ≡ view.Running d.task d.at owed) × (slice_get (script c.graph d.task) d.at ≡ Some a)
-    at_place owed a owes does = let h = is_doing c.graph (view_of c seat) d is in (h.0 ∙ ap (view.Running d.task d.at) owes, h.1 ∙ ap Some does)
-
-    by_act : (owed : Due) (a : Act) → d.due ≡ owed → d.act ≡ a → Leaves (finish c seat d owed a)
-    by_act due.Nothing act.Finishes owes does =
-        let h = at_place due.Nothing act.Finishes owes does in
-        finish_sound c seat d.task d.at (seat_of c.views seat (view.Running d.task d.at due.Nothing) h.0 (λ e. cc)) h.1 sound
-    by_act _ _ owes does = tt
+  pub finish_leaves : (seat : ℕ) (d : Doing) (owed : Due) (a : Act) → IsSeat c.views seat (view.Running d.task d.at owed) → slice_get (script c.graph d.task) d.at ≡ Some a → Leaves (finish c seat d owed a)
+  finish_leaves seat d due.Nothing act.Finishes is stands = finish_sound c seat d.task d.at is stands sound
+  finish_leaves seat d _ _ is stands = tt
 
   pub look_done_leaves : (v : View) → Leaves (look_done c v)
   look_done_leaves view.Idle = sound

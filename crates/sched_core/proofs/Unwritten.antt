@@ -1,12 +1,13 @@
 -- A task lowers what it used only when it has published, so a slot whose writer has not published keeps a use.
 use Rattle.std.proofs.Common.{◌≡◌, ◌∙◌, ◌≤◌, ◌<◌, ℕ, zero, suc, Bool, true, false, cond, not, List, [], ◌∷◌, ◌++◌, take, ◌⊎◌, inl, inr, length, ap, sym, refl, subst, arith}
 use Rattle.std.specs.Prelude.{◌||◌, ◌&&◌, ◌==◌, nat_lt, slice_index}
-use Rattle.std.specs.List.{flat_map, list_any, range_with_len}
-use Rattle.std.proofs.lemmas.Bool.{false≢true, cases_lt, and_from, and_left, and_parts, or_cases, or_right, ne_eqb, eq-eqb}
+use Rattle.std.specs.List.{flat_map, list_any}
+use Rattle.std.proofs.lemmas.Bool.{false≢true, cases_lt, and_from, and_left, and_parts, or_right, ne_eqb, eq-eqb}
 use Rattle.std.proofs.lemmas.List.{get_or_past}
 use Rattle.std.proofs.lemmas.List.Elements.{All-get_or}
 use Rattle.std.proofs.lemmas.List.Sums.{sum_by-le-sum_by}
 use Rattle.graph_types.specs.declared.graph.Graph.{Graph}
+use Rattle.graph_types.specs.Counting.{count_one}
 use Rattle.graph_types.specs.Graph.{reads_of, reads, writes}
 use Rattle.sched_core.specs.declared.act.Act.{Act}
 use Rattle.sched_core.specs.declared.act.Act.TheVariants.{Publishes, Finishes}
@@ -15,10 +16,9 @@ use Rattle.sched_core.specs.declared.view.View.TheVariants as view
 use Rattle.sched_core.specs.declared.state.Core.{Core}
 use Rattle.sched_core.specs.Core.{reading, lowering, script, has_behind, places_behind, number_behind, is_behind, publishes, lowers_use}
 use Rattle.sched_core.specs.Sound.{IsSound, is_unwritten}
-use Rattle.sched_core.proofs.Lists.{counts_one}
+use Rattle.sched_core.proofs.Lists.{any_found}
 use Rattle.sched_core.proofs.Scripts.{reads_lower_no_use}
 use Rattle.sched_core.proofs.Facts.{behind_runs, zero_or_more, one_or_less}
-use Rattle.sched_core.proofs.Publishing.{any_push}
 
 -- an act that stands behind another one only
 in_order : (p q : Act → Bool) (front : List Act) (mark : Act) (rest : List Act) (n : ℕ) → list_any q front ≡ false → p mark ≡ true →
@@ -53,17 +53,6 @@ lowered_published g views test late task = sum_by-le-sum_by (λ v. cond (has_beh
   each : (v : View) → cond (has_behind g test task v) 1 0 ≤ cond (has_behind g publishes task v) 1 0
   each v = one_or_less (has_behind g publishes task v) (has_behind g test task v) (too v)
 
--- where some number below a bound passes, there is one
-pub any_found : (test : ℕ → Bool) (n : ℕ) → list_any test (range_with_len 0 n) ≡ true → (k : ℕ) × (k < n) × (test k ≡ true)
-any_found test zero h = absurd (false≢true h)
-any_found test (suc n) h = by_part (or_cases _ _ (sym (any_push test n) ∙ h)) (any_found test n) where
-  by_part : (list_any test (range_with_len 0 n) ≡ true) ⊎ ((test n || false) ≡ true) → (list_any test (range_with_len 0 n) ≡ true → (k : ℕ) × (k < n) × (test k ≡ true)) → (k : ℕ) × (k < suc n) × (test k ≡ true)
-  by_part (inl earlier) rest = let found = rest earlier in (found.0, omega arith, found.2)
-  by_part (inr last) rest = (n, omega arith, last_one (test n) last) where
-    last_one : (b : Bool) → (b || false) ≡ true → b ≡ true
-    last_one true e = refl
-    last_one false e = e
-
 module _ (c : Core) (sound : IsSound c) where
   word_le : (task : ℕ) → slice_index c.published task ≤ 1
   word_le task = by_order (cases_lt task (length c.published)) where
@@ -91,6 +80,6 @@ module _ (c : Core) (sound : IsSound c) where
       let found = any_found (λ t. writes c.graph t slot && not (slice_index c.published t == 1)) c.graph.tasks h in
       let parts = and_parts (writes c.graph found.0 slot) (not (slice_index c.published found.0 == 1)) found.2 in
       let unread : slice_index c.published found.0 ≡ 1 → ⊥ = λ e. false≢true (sym (ap not (eq-eqb _ _ e)) ∙ parts.1) in
-      let counts = counts_one (λ t. (reads c.graph t slot || writes c.graph t slot) && not (is_behind c.graph c.published c.views (lowers_use slot) t)) c.graph.tasks found.0 found.1
+      let counts = count_one (λ t. (reads c.graph t slot || writes c.graph t slot) && not (is_behind c.graph c.published c.views (lowers_use slot) t)) c.graph.tasks found.0 found.1
       (and_from _ _ (or_right (reads c.graph found.0 slot) (writes c.graph found.0 slot) parts.0) (ap not (unpublished_keeps (lowers_use slot) (reads_lower_no_use slot) found.0 unread))) in
       omega (arith, counts, sound.uses.counts slot within)
