@@ -1,6 +1,6 @@
 -- The listing of a problem's task graphs as text: for each plan a line of its own, one for each slot and one for each detailed task.
 use Rattle.std.specs.Prelude.{ℕ, pos, true, List, [], ◌∷◌, ◌++◌, Option, None, Some, length, map, codes, decimal, slice_get, slice_index_or, if◌then◌else◌}
-use Rattle.std.specs.List.{enumerate_from, sum_by}
+use Rattle.std.specs.List.{enumerate_from, flat_map, sum_by}
 use Rattle.std.specs.Option.{option_map_or}
 use Rattle.problem_types.specs.declared.problem.Problem.{Problem}
 use Rattle.problem_types.specs.declared.problem.Task.{Task}
@@ -118,3 +118,7 @@ listed list = record { list = list; next = true; dump = true }
 -- The listing of a problem: that of the plans of both lists, each for a step that another one follows and the dump shows.
 abbrev pub listing_lines : Problem → List (List ℕ)
 listing_lines p = lines_of_plans p (plan_of p (listed Init)) (plan_of p (listed Timestep))
+
+-- its bytes
+abbrev pub listing_bytes : Problem → List ℕ
+listing_bytes p = flat_map (λ bytes. bytes) (listing_lines p)

@@ -1,7 +1,6 @@
 //! The listing of task graphs as text.
 #![tactic(auto)]
 
-mod listing;
 mod lists;
 mod memory;
 mod plan;
@@ -11,7 +10,8 @@ mod slots;
 mod tasks;
 #[cfg(test)]
 mod tests;
+mod whole;
 
-pub use listing::listing_of;
 pub use memory::NoMemory;
 pub use plan::PlanLines;
+pub use whole::listing;

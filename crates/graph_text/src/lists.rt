@@ -1,5 +1,5 @@
-//! Lists of numbers.
-ghost use Rattle.std.specs.Prelude.{◌≡◌, [], slice_index_or};
+//! What stands at a place of a list.
+ghost use Rattle.std.specs.Prelude.{◌≡◌, ◌<◌, [], Some, length, slice_get, slice_index_or};
 
 use sqlite_items::Items;
 
@@ -11,4 +11,12 @@ pub(crate) fn list_at(lists: &Items<Items<u32>>, place: usize) -> &[u32]
         Some(numbers) => numbers.as_slice(),
         None => &[],
     }
+}
+
+/// The item at a place.
+pub(crate) fn item_at<T: Copy>(items: &[T], place: usize) -> T
+    requires { place < length items.now }
+    ensures { slice_get items.now place ≡ Some result }
+{
+    items[place]
 }

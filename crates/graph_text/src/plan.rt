@@ -5,19 +5,19 @@ ghost use Rattle.graph_text.specs.Listing.{numbered, plan_line, plan_lines, slot
 ghost use Rattle.graph_text.specs.Predecessors.{predecessors_of};
 
 use crate::NoMemory;
-use crate::lists::list_at;
+use crate::lists::{item_at, list_at};
 use crate::predecessors::predecessors;
 use crate::putting::{list_word, put_labelled, put_labelled_long};
 use crate::slots::put_slot_line;
 use crate::tasks::put_task_line;
-use graph_compiler::{Detail, ListKind, Plan, Slot};
+use graph_compiler::{ListKind, Plan};
 use graph_types::Graph;
 use problem_types::Problem;
 use sqlite_items::Items;
 use std::alloc::Global;
 use std::marker::Model;
 
-/// The lines of a plan, put one at a time. They are seen as their list, each with its line feed.
+/// The lines of a plan, each with its line feed, put one at a time. Contracts see their list.
 #[derive(Drop)]
 pub struct PlanLines<'a> {
     problem: &'a Problem,
@@ -61,7 +61,7 @@ impl<'a> PlanLines<'a> {
         line_count(self.plan)
     }
 
-    /// Makes `line` the line of this number.
+    /// Makes `line` the line of this number, from 0. After an error `line` holds a part of it, or none.
     pub fn put(&self, line: &mut Vec<u8>, number: usize) -> Result<(), NoMemory>
         requires { number < length self.now }
         ensures { OnOk result (slice_get self.now number ≡ Some line.new.items) }
@@ -86,7 +86,7 @@ fn line_count(plan: &Plan) -> usize
     1 + slots.len() + tasks.len()
 }
 
-/// The sum of two numbers, where it is below 2^63: so much lies in no memory.
+/// The sum of two lengths. Lists that are 2^63 long together lie in no memory, so none is left then.
 fn sum_below(a: u64, b: usize) -> Result<u64, NoMemory>
     ensures sum { IfOk result (λ sum. sum ≡ a + b) }
     ensures few { IfOk result (λ sum. sum < 2 ^ 63) }
@@ -124,29 +124,13 @@ fn put_plan_line(line: &mut Vec<u8>, list: ListKind, g: &Graph) -> Result<(), No
     Ok(())
 }
 
-/// The slot of this number.
-fn slot_at(slots: &[Slot], number: usize) -> Slot
-    requires { number < length slots.now }
-    ensures { slice_get slots.now number ≡ Some result }
-{
-    slots[number]
-}
-
-/// The detailed task of this number.
-fn detail_at(tasks: &[Detail], number: usize) -> Detail
-    requires { number < length tasks.now }
-    ensures { slice_get tasks.now number ≡ Some result }
-{
-    tasks[number]
-}
-
 /// Makes `line` the line of the slot of this number.
 fn put_slot(line: &mut Vec<u8>, p: &Problem, plan: &Plan, number: usize) -> Result<(), NoMemory>
     requires { number < length plan.now.slots }
     ensures { OnOk result (slice_get (numbered (slot_line p.now plan.now.graph) plan.now.slots) number ≡ Some line.new.items) }
 {
     let slots = plan.slots.as_slice();
-    let s = slot_at(slots, number);
+    let s = item_at(slots, number);
     put_slot_line(line, p, &plan.graph, number, s)
 }
 
@@ -164,7 +148,7 @@ fn put_task(
     ensures { OnOk result (slice_get (numbered (task_line p.now list plan.now.graph) plan.now.tasks) number ≡ Some line.new.items) }
 {
     let tasks = plan.tasks.as_slice();
-    let d = detail_at(tasks, number);
+    let d = item_at(tasks, number);
     put_task_line(
         line,
         p,

@@ -1,5 +1,6 @@
 //! Listings written out by hand.
-use crate::{PlanLines, listing_of};
+use crate::PlanLines;
+use crate::whole::listing_of;
 use graph_compiler::{Detail, ListKind, Plan, Slot, SlotKind};
 use graph_types::Graph;
 use problem_types::{Centring, Expr, Name, Num, Problem, Task, Write, WriteKind};

@@ -17,6 +17,6 @@ put_task_line-requires-clause-predecessors c =
 
 pub returns : goal.returns
 returns c =
-    let P : List Detail → Type 0 = λ tasks. slice_get tasks c.args.number ≡ Some c.detail_at-d.result in
-    put_numbered (task_line c.args.p.now c.args.list c.args.plan.now.graph) c.args.plan.now.tasks c.args.number c.detail_at-d.result
-    c.put_task_line.result c.put_task_line.new.line.items (subst P c.as_slice-tasks.ensures c.detail_at-d.ensures) c.put_task_line.ensures
+    let P : List Detail → Type 0 = λ tasks. slice_get tasks c.args.number ≡ Some c.item_at-d.result in
+    put_numbered (task_line c.args.p.now c.args.list c.args.plan.now.graph) c.args.plan.now.tasks c.args.number c.item_at-d.result
+    c.put_task_line.result c.put_task_line.new.line.items (subst P c.as_slice-tasks.ensures c.item_at-d.ensures) c.put_task_line.ensures

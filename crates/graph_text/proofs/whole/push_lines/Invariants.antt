@@ -1,5 +1,5 @@
 use Rattle.std.proofs.Common.{◌≡◌, ◌++◌, map, take}
-use Rattle.graph_text.proofs.listing.push_lines.Given as goal
+use Rattle.graph_text.proofs.whole.push_lines.Given as goal
 
 -- the lines so far are there
 abbrev pub invariant-loop-number : goal.invariant-loop-number

@@ -1,11 +1,13 @@
 //! The whole listing.
 ghost use Rattle.std.specs.Prelude.{◌≡◌, ◌++◌, ◌∷◌, [], IfOk, OnOk, map, slice_get, Some};
-ghost use Rattle.graph_text.specs.Listing.{lines_of_plans, plan_lines};
+ghost use Rattle.graph_compiler.specs.Plan.{plan_of};
+ghost use Rattle.graph_text.specs.Listing.{lines_of_plans, listed, listing_lines, plan_lines};
 
 use crate::{NoMemory, PlanLines};
-use graph_compiler::{ListKind, Plan};
+use graph_compiler::{ListKind, Plan, StepKind, compile};
 use problem_types::Problem;
 use std::alloc::Global;
+use task_check::Checked;
 
 /// Puts a line of these bytes behind others.
 fn push_line(alloc: Global, lines: &mut Vec<Vec<u8>>, bytes: &[u8]) -> Result<(), NoMemory>
@@ -41,9 +43,30 @@ fn push_plan(
     push_lines(alloc, lines, &of_plan)
 }
 
+/// The plan of a list for a step that another one follows and the dump shows.
+fn plan_listed(alloc: Global, c: &Checked, list: ListKind) -> Result<Plan, NoMemory>
+    ensures { IfOk result (λ plan. plan ≡ plan_of c.now (listed list)) }
+{
+    let kind = StepKind {
+        list,
+        next: true,
+        dump: true,
+    };
+    compile(alloc, c, kind).map_err(|_| NoMemory)
+}
+
+/// The lines of the listing of a problem, each with its line feed. `docs/task-graph.md` states what stands in them.
+pub fn listing(alloc: Global, c: &Checked) -> Result<Vec<Vec<u8>>, NoMemory>
+    ensures { IfOk result (λ lines. map (λ l. l.items) lines.items ≡ listing_lines c.now) }
+{
+    let init = plan_listed(alloc, c, ListKind::Init)?;
+    let timestep = plan_listed(alloc, c, ListKind::Timestep)?;
+    listing_of(alloc, c.problem(), &init, &timestep)
+}
+
 /// The listing of the two plans of a problem: its lines, each with its line feed. Of the plans that a problem has for steps that
 /// another one follows and the dump shows, this is the listing of the problem.
-pub fn listing_of(
+pub(crate) fn listing_of(
     alloc: Global,
     p: &Problem,
     init: &Plan,

@@ -1,7 +1,7 @@
 use Rattle.std.proofs.Common.{rules}
 use Rattle.std.proofs.lemmas.List.{append_assoc}
 use Rattle.graph_text.specs.Listing.{lines_of_plans}
-use Rattle.graph_text.proofs.listing.listing_of.Goals as goal
+use Rattle.graph_text.proofs.whole.listing_of.Goals as goal
 
 pub returns : goal.returns
 unfolding lines_of_plans

@@ -1,6 +1,6 @@
 use Rattle.std.proofs.Common.{◌≡◌, ◌∷◌, [], ◌++◌, map}
 use Rattle.graph_text.proofs.Lines.{put_next}
-use Rattle.graph_text.proofs.listing.push_lines.Goals as goal
+use Rattle.graph_text.proofs.whole.push_lines.Goals as goal
 
 pub loop-number-preserved : goal.loop-number-preserved
 loop-number-preserved c =
