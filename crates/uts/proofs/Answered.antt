@@ -10,11 +10,11 @@ use Rattle.problem_file.specs.Grammar.{Spells}
 use Rattle.problem_file.specs.Laws.{OneProblem, OneBadLine, NoProblemWithABadLine, EveryTextIsJudged, ProblemsAreInForm}
 use Rattle.task_check.specs.First.{IsAccepted}
 use Rattle.task_check.specs.Laws.{ProblemsAreJudged, FirstFaultsAreOne, AcceptedProblemsHaveNone}
-use Rattle.uts.specs.Answer.{IsCommand, IsRefused, Answers, usage, refusal, accepted, dump, ErrorLine, none, too_long, bad_text, fault, usage_line}
+use Rattle.uts.specs.Answer.{IsCommand, IsRefused, Answers, usage, refusal, accepted, dump, listing, ErrorLine, none, too_long, bad_text, fault, usage_line}
 use Rattle.uts.specs.Commands.{Asks, bytes_of}
 use Rattle.uts.specs.Laws.{HasOneAnswer, OneAnswer}
 use Rattle.uts.specs.declared.command.Command.{Command}
-use Rattle.uts.specs.declared.command.Command.TheVariants.{Plain, Check}
+use Rattle.uts.specs.declared.command.Command.TheVariants.{Plain, Check, Graph}
 use Rattle.uts.proofs.Lines.{only_none, only_usage, only_refusal}
 use Rattle.uts.proofs.Outcomes.{Outcome, refused, done, outcome_of, answer_of}
 use Rattle.uts.proofs.Told.{never_refused}
@@ -37,7 +37,10 @@ command_or_not words = elim (one_word_or_not (map string_bytes words) (codes "pl
   | inl plain ↦ inl (Plain, plain)
   | inr not_plain ↦ elim (one_word_or_not (map string_bytes words) (codes "check")) [
     | inl check ↦ inl (Check, check)
-    | inr not_check ↦ inr (λ is. elim is [ inl plain ↦ not_plain plain | inr check ↦ not_check check ])
+    | inr not_check ↦ elim (one_word_or_not (map string_bytes words) (codes "graph")) [
+      | inl graph ↦ inl (Graph, graph)
+      | inr not_graph ↦ inr (λ is. elim is [ inl plain ↦ not_plain plain | inr other ↦ elim other [ inl check ↦ not_check check | inr graph ↦ not_graph graph ] ])
+    ]
   ]
 ]
 
@@ -56,8 +59,9 @@ of_no_command words text other = record {
     only : (status : ℕ) (bytes : List ℕ) → Answers words text status bytes → (status ≡ 2) × (bytes ≡ [])
     only status bytes (usage no_command) = (refl, refl)
     only status bytes (refusal is why) = absurd (other is)
-    only status bytes (accepted check short p spelled fine) = absurd (other (inr check))
+    only status bytes (accepted check short p spelled fine) = absurd (other (inr (inl check)))
     only status bytes (dump plain short p spelled fine) = absurd (other (inl plain))
+    only status bytes (listing graph short p spelled fine) = absurd (other (inr (inr graph)))
 
 -- each text that a command refuses has a line that tells of it
 line_of_refused : (words : List (String Global)) (text : List ℕ) → IsRefused text → (told : List ℕ) × ErrorLine words (Some text) 1 told

@@ -3,3 +3,5 @@ pub mod Lines
 pub mod Outcomes
 pub mod Statuses
 pub mod Told
+pub mod Parts
+pub mod Written

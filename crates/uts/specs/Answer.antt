@@ -4,6 +4,7 @@ use Rattle.std.specs.declared.alloc.Global.{Global}
 use Rattle.uts_model.specs.Dump.{line, dump_bytes}
 use Rattle.problem_types.specs.declared.problem.Problem.{Problem}
 use Rattle.problem_file.specs.Grammar.{Spells, IsBadLine}
+use Rattle.graph_text.specs.Listing.{listing_bytes}
 use Rattle.task_check.specs.First.{IsFirstFault, IsAccepted}
 use Rattle.task_check.specs.declared.fault.FaultKind.{FaultKind}
 use Rattle.uts.specs.Words.{fault_words}
@@ -16,9 +17,13 @@ IsPlain words = map string_bytes words ≡ codes "plain" ∷ []
 abbrev pub IsCheck : List (String Global) → Type 0
 IsCheck words = map string_bytes words ≡ codes "check" ∷ []
 
+-- the words are the command that writes the listing of its task graphs
+abbrev pub IsGraph : List (String Global) → Type 0
+IsGraph words = map string_bytes words ≡ codes "graph" ∷ []
+
 -- the words are one of the commands
 abbrev pub IsCommand : List (String Global) → Type 0
-IsCommand words = IsPlain words ⊎ IsCheck words
+IsCommand words = IsPlain words ⊎ (IsCheck words ⊎ IsGraph words)
 
 abbrev pub IsTooLong : List ℕ → Type 0
 IsTooLong text = 2 ^ 20 < length text
@@ -46,6 +51,7 @@ pub data Answers (words : List (String Global)) (text : List ℕ) : ℕ → List
   accepted : IsCheck words → length text ≤ 2 ^ 20 → (p : Problem) → Spells text p → IsAccepted p
       → Answers words text 0 (line (codes "accepted"))
   dump : IsPlain words → length text ≤ 2 ^ 20 → (p : Problem) → Spells text p → IsAccepted p → Answers words text 0 (dump_bytes p [])
+  listing : IsGraph words → length text ≤ 2 ^ 20 → (p : Problem) → Spells text p → IsAccepted p → Answers words text 0 (listing_bytes p)
 
 -- the line of a refusal by these words, which stands on a line of the text
 abbrev pub refusal_line : List ℕ → ℕ → List ℕ

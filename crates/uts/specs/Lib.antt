@@ -3,3 +3,4 @@ pub mod Commands
 pub mod Failures
 pub mod Laws
 pub mod Words
+pub mod Listed

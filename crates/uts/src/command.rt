@@ -5,6 +5,8 @@ pub enum Command {
     Plain,
     /// To tell whether it has a fault.
     Check,
+    /// To write the listing of its task graphs.
+    Graph,
 }
 
 impl Command {
@@ -16,6 +18,7 @@ impl Command {
         match name {
             "plain" => Some(Command::Plain),
             "check" => Some(Command::Check),
+            "graph" => Some(Command::Graph),
             _ => None,
         }
     }

@@ -8,6 +8,9 @@ mod failure;
 #[cfg(test)]
 mod faults_tests;
 mod laws;
+mod listing;
+#[cfg(test)]
+mod listing_tests;
 #[cfg(test)]
 mod refusals_tests;
 mod report;

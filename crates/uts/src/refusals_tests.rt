@@ -9,7 +9,7 @@ const FINER_LEVEL: &str = "level ratio 2\nbox 0 0 0 2 2 2\npatch 0 0 0 2 2 2\n";
 /// Whether each command refuses the text by these words.
 pub(crate) fn is_refused(alloc: Global, text: &str, words: &str) -> Result<bool, Fail> {
     let line = format!(in alloc; "refused: {words}\n")?;
-    for word in ["check", "plain"] {
+    for word in ["check", "plain", "graph"] {
         let answer = call(alloc, word, text.as_bytes(), &CALM)?;
         if answer.status != 1 || answer.out.len() > 0 || answer.err.as_slice() != line.as_bytes() {
             return Ok(false);

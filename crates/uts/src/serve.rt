@@ -9,6 +9,7 @@ ghost use Rattle.uts.specs.Failures.{IsReason, IsEarly};
 
 use crate::command::Command;
 use crate::failure::Failure;
+use crate::listing::write_listing;
 use plain_engine::{RunFault, run_plain};
 use problem_file::{no_problem_with_a_bad_line, one_problem, parse};
 use std::alloc::Global;
@@ -57,6 +58,7 @@ fn write_answer<O: Sink>(
     match command {
         Command::Plain => run_plain(alloc, checked, out),
         Command::Check => Ok(write_all(out, b"accepted\n")?),
+        Command::Graph => write_listing(alloc, checked, out),
     }
 }
 

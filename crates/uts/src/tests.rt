@@ -172,7 +172,7 @@ fn a_line_that_failed_is_not_told_again(rt: HostRuntime) -> Result<(), Fail> {
 
 #[test]
 fn words_of_no_command(rt: HostRuntime) -> Result<(), Fail> {
-    for word in ["", "graph", "plain ", "--help"] {
+    for word in ["", "graphs", "plain ", "--help"] {
         let answer = call(rt.alloc(), word, GROWING.as_bytes(), &CALM)?;
         assert_eq!(rt; answer.status, 2, "{word}");
         assert_eq!(rt;

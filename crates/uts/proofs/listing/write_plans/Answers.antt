@@ -1,0 +1,12 @@
+use Rattle.std.proofs.Common.{◌∙◌, Err, ap, refl}
+use Rattle.std.proofs.lemmas.Result.{err_from_is_err_and}
+use Rattle.uts.proofs.Written.{then_writes, writes_less}
+use Rattle.uts.proofs.listing.write_plans.Goals as goal
+
+pub returns-in_err-write_list : goal.returns-in_err-write_list
+returns-in_err-write_list g c =
+    let p = err_from_is_err_and c.from_residual.result c.from_residual.ensures.1 in
+    writes_less g.O.Sink.after _ _ _ _ c.in_err-write_list.field-0.0 _ _ _ _ refl (p.1 ∙ ap Err p.2) c.in_err-write_list.ensures
+
+pub returns : goal.returns
+returns g c = then_writes g.O.Sink.after g.met.O.Sink.after_both _ _ _ _ _ _ tt _ _ _ c.in_ok-write_list.ensures c.write_timestep.ensures
