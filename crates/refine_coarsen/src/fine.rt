@@ -20,7 +20,7 @@ fn fine(n: i64, ratio: i64) -> i64
     }
 }
 
-/// Where the coordinates of the next finer level end: before the one given here, or behind it where a point there counts besides.
+/// Where the window over a patch that ends at a coordinate ends on the next finer level: one further where the points there count besides.
 fn fine_end(n: i64, ratio: i64, point: bool) -> i64
     requires ratio { IsRatio ratio }
     requires near { IsNearNumber n }
@@ -91,7 +91,7 @@ fn children_span(i: Index, ratio: i64, c: Centring) -> Span
     }
 }
 
-/// The children of an index on the next finer level: so many as the ratio on the axes where the centring is interval-like, and one where
+/// The children of an index on the next finer level: as many as the ratio on each axis where the centring is interval-like, and one where
 /// it is point-like. The finer level need not have them all.
 pub fn children(i: Index, ratio: i64, c: Centring) -> Span
     requires ratio { IsRatio ratio }

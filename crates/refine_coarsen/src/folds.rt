@@ -11,7 +11,7 @@ use reductions::{Fold, combine, identity};
 use uts_geom::{Index, Span, contains};
 
 /// The number of an index in a window, and 0 where the window's span does not hold the index.
-pub fn number_within(w: &Window, i: Index) -> i64
+fn number_within(w: &Window, i: Index) -> i64
     ensures { result ≡ number_within w.now i }
 {
     if contains(w.span(), i) { w.at(i) } else { 0 }
@@ -82,9 +82,9 @@ fn with_all(how: How, w: &Window, before: i64, s: Span) -> i64
     all
 }
 
-/// The fold over the children of an index that the window's index space holds: the wrapping sum of their numbers, the least, the
-/// greatest, or how many they are. Over no children the sum and the count are 0, the least is the greatest number that there is, and the
-/// greatest the least.
+/// The fold over those children of an index that the window's index space holds: the wrapping sum of their numbers, the least, the
+/// greatest, or how many they are. Over no children the sum and the count are 0, the least is 2^63 - 1, and the greatest -2^63. A child
+/// that the window's span does not hold counts with the number 0.
 pub fn fine_fold(how: How, w: &Window, kids: Span) -> i64
     requires fine { IsTrue (is_fine how) }
     requires few { length (indexes_of kids) < 2 ^ 63 }

@@ -8,5 +8,5 @@ mod levels;
 mod tests;
 
 pub use fine::{children, fine_span};
-pub use folds::{fine_fold, number_within};
+pub use folds::fine_fold;
 pub use levels::{coarse_index, coarse_span};
