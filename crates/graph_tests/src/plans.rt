@@ -1,216 +1,51 @@
 //! Plans of small problems, worked out by hand.
-use graph_compiler::{Detail, ListKind, Plan, Slot, StepKind, compile, kind_of};
-use graph_types::Graph;
-use problem_types::{
-    BoxLine, Centring, Expr, Fold, Ghost, GhostKind, Keep, Level, Name, NoMemory, Num, Problem,
-    Reduction, Require, Store, Task, Var, What, Write, WriteKind, in_form,
-};
+use graph_compiler::{Detail, ListKind, Plan, StepKind, compile, kind_of};
+use problem_file::parse;
 use sqlite_items::Items;
 use std::alloc::Global;
 use std::test::Fail;
 use task_check::{Checked, check};
 
-/// Numbers the lines of a text.
-#[derive(Drop)]
-struct Lines(u32);
-
-impl Lines {
-    fn next(&mut self) -> u32 {
-        self.0 += 1;
-        self.0
-    }
-}
-
-fn num(lines: &mut Lines, value: u64) -> Num {
-    Num {
-        line: lines.next(),
-        value,
-    }
-}
-
-fn cells(lines: &mut Lines, lo: u64, hi: u64) -> BoxLine {
-    BoxLine {
-        line: lines.next(),
-        lo: [lo, 0, 0],
-        hi: [hi, 1, 1],
-    }
-}
-
-/// A level of cells in a row from 0 to `ends`' last, in patches that end there.
-fn level(
-    alloc: Global,
-    lines: &mut Lines,
-    ratio: u64,
-    bounds: &[[u64; 3]],
-    ends: [u64; 3],
-) -> Result<Level, NoMemory> {
-    let line = lines.next();
-    let mut boxes = Items::new(alloc);
-    boxes.push(BoxLine {
-        line: lines.next(),
-        lo: [0, 0, 0],
-        hi: ends,
-    })?;
-    let mut patches = Items::new(alloc);
-    for pair in bounds {
-        patches.push(BoxLine {
-            line: lines.next(),
-            lo: [pair[0], 0, 0],
-            hi: [pair[1], ends[1], ends[2]],
-        })?;
-    }
-    Ok(Level {
-        line,
-        ratio,
-        boxes,
-        patches,
-    })
-}
-
-fn task(
-    alloc: Global,
-    lines: &mut Lines,
-    name: u32,
-    levels: &[u64],
-    materials: &[u64],
-) -> Result<Task, NoMemory> {
-    Ok(Task {
-        line: lines.next(),
-        name,
-        levels: Items::from_slice(alloc, levels)?,
-        materials: Items::from_slice(alloc, materials)?,
-        requirements: Items::new(alloc),
-        writes: Items::new(alloc),
-    })
-}
-
-fn require(t: &mut Task, lines: &mut Lines, store: Store, what: What) -> Result<(), NoMemory> {
-    t.requirements.push(Require {
-        line: lines.next(),
-        store,
-        what,
-    })?;
-    Ok(())
-}
-
-fn write(t: &mut Task, lines: &mut Lines, kind: WriteKind, name: u32) -> Result<(), NoMemory> {
-    t.writes.push(Write {
-        line: lines.next(),
-        kind,
-        name,
-        expr: Expr::X,
-    })?;
-    Ok(())
-}
-
-fn same(var: u32, n: u64) -> What {
-    let kind = if n == 0 {
-        GhostKind::None
-    } else {
-        GhostKind::Cells
-    };
-    What::Same {
-        var,
-        layers: Ghost { kind, n },
-    }
-}
-
-fn problem(
-    alloc: Global,
-    lines: &mut Lines,
-    steps: u64,
-    materials: u64,
-) -> Result<Problem, NoMemory> {
-    let mut names = Items::new(alloc);
-    let mut k = 0u8;
-    while k < 16 {
-        names.push(Name::new(alloc, &[b'a' + k])?)?;
-        k += 1;
-    }
-    Ok(Problem {
-        names,
-        version: num(lines, 1),
-        steps: num(lines, steps),
-        dump: num(lines, 1),
-        ghost_limit: num(lines, 1),
-        materials: num(lines, materials),
-        levels: Items::new(alloc),
-        vars: Items::new(alloc),
-        reductions: Items::new(alloc),
-        init_line: 0,
-        init: Items::new(alloc),
-        timestep_line: 0,
-        timestep: Items::new(alloc),
-        keeps: Items::new(alloc),
-        end_line: 0,
-    })
-}
-
-fn variable(p: &mut Problem, lines: &mut Lines, name: u32) -> Result<(), NoMemory> {
-    p.vars.push(Var {
-        line: lines.next(),
-        name,
-        centring: Centring::Cell,
-        outside: 0,
-    })?;
-    Ok(())
-}
-
-fn reduction(p: &mut Problem, lines: &mut Lines, name: u32) -> Result<(), NoMemory> {
-    p.reductions.push(Reduction {
-        line: lines.next(),
-        name,
-        fold: Fold::Max,
-    })?;
-    Ok(())
-}
-
-fn keep(p: &mut Problem, lines: &mut Lines, name: u32) -> Result<(), NoMemory> {
-    p.keeps.push(Keep {
-        line: lines.next(),
-        name,
-    })?;
-    Ok(())
-}
-
 /// `u` in two patches, computed, and then from itself by one layer of ghost cells.
-fn two_patches(alloc: Global) -> Result<Problem, NoMemory> {
-    let mut lines = Lines(0);
-    let mut p = problem(alloc, &mut lines, 2, 1)?;
-    p.levels.push(level(alloc, &mut lines, 1, &[[0, 2, 0], [2, 4, 0]], [4, 1, 1])?)?;
-    variable(&mut p, &mut lines, 0)?;
-    p.init_line = lines.next();
-    let mut start = task(alloc, &mut lines, 1, &[0], &[0])?;
-    write(&mut start, &mut lines, WriteKind::Computes, 0)?;
-    p.init.push(start)?;
-    p.timestep_line = lines.next();
-    let mut shift = task(alloc, &mut lines, 2, &[0], &[0])?;
-    require(&mut shift, &mut lines, Store::Old, same(0, 1))?;
-    write(&mut shift, &mut lines, WriteKind::Computes, 0)?;
-    p.timestep.push(shift)?;
-    keep(&mut p, &mut lines, 0)?;
-    p.end_line = lines.next();
-    Ok(p)
-}
+const TWO_PATCHES: &str =
+    "problem 1\nsteps 2\ndump 1\nghost 1\nmaterials 1\nlevel ratio 1\nbox 0 0 0 4 1 1\npatch 0 0 0 2 1 1\npatch 2 0 0 4 1 1\nvar u cell outside 0\ninit\ntask start levels 0 materials 0\ncomputes u = x\ntimestep\ntask shift levels 0 materials 0\nrequires old u cells 1\ncomputes u = x\nkeep u\nend\n";
 
-fn checked(problem: Problem) -> Result<Checked, Fail> {
-    if !in_form(&problem) {
-        return Err("not in form".into());
+/// Two levels and two materials. `u` is read before and after it is modified, and the reduction of the step before and of this one are read.
+const READERS: &str =
+    "problem 1\nsteps 1\ndump 1\nghost 1\nmaterials 2\nlevel ratio 1\nbox 0 0 0 4 1 1\npatch 0 0 0 2 1 1\npatch 2 0 0 4 1 1\nlevel ratio 2\nbox 0 0 0 8 2 2\npatch 0 0 0 4 2 2\npatch 4 0 0 8 2 2\nvar u cell outside 0\nvar v cell outside 0\nreduction r max\ninit\ntask start levels 0 1 materials 0 1\ncomputes u = x\nreduces r cell = x\ntimestep\ntask step levels 0 1 materials 0 1\nrequires old u cells 1\nrequires old r\ncomputes u = x\ntask before levels 1 materials 0\nrequires new coarse u none\ncomputes v = x\ntask modify levels 0 materials 0\nrequires new u none\nrequires new fine u\nmodifies u = x\ntask after levels 0 materials 0 1\nrequires new u cells 1\ncomputes v = x\ntask reduce levels 0 1 materials 0 1\nrequires new u none\nreduces r cell = x\ntask last levels 1 materials 1\nrequires new r\ncomputes v = x\nkeep u\nend\n";
+
+/// Up to the patches: a level of 32 x 32 cells, and 8 materials.
+const WIDE_LEVEL: &str =
+    "problem 1\nsteps 2\ndump 1\nghost 8\nmaterials 8\nlevel ratio 1\nbox 0 0 0 32 32 1\n";
+
+/// Behind the patches: `u`, computed, and then from itself by 8 layers of ghost cells.
+const WIDE_TASKS: &str =
+    "var u cell outside 0\ninit\ntask start levels 0 materials 0 1 2 3 4 5 6 7\ncomputes u = x\ntimestep\ntask shift levels 0 materials 0 1 2 3 4 5 6 7\nrequires old u cells 8\ncomputes u = x\nend\n";
+
+/// The texts are shorter.
+const LONGEST: usize = 1 << 20;
+
+fn checked(alloc: Global, text: &str) -> Result<Checked, Fail> {
+    if text.len() >= LONGEST {
+        return Err("too long".into());
     }
+    let Ok(problem) = parse(alloc, text.as_bytes()) else {
+        return Err("not a problem".into());
+    };
     match check(problem) {
         Ok(c) => Ok(c),
         Err(_) => Err("refused".into()),
     }
 }
 
-/// The line of a slot: its kind, name, material, level, patch and version, how often it is used and whether it is kept.
-fn slot_line(alloc: Global, plan: &Plan, k: usize, s: Slot) -> Result<String, Fail> {
-    let uses = plan.graph.uses.as_slice().get(k).copied().unwrap_or(0);
-    let kept = plan.graph.kept.as_slice().get(k).copied().unwrap_or(false);
-    Ok(format!(in alloc;
-        "{:?} {} {} {} {} {} uses {} {}\n",
-        s.kind, s.name, s.material, s.level, s.patch, s.version, uses, kept
-    )?)
+fn kind(list: ListKind, next: bool, dump: bool) -> StepKind {
+    StepKind { list, next, dump }
+}
+
+/// The plan of the timestep list.
+fn timestep(alloc: Global, text: &str, next: bool, dump: bool) -> Result<Plan, Fail> {
+    let c = checked(alloc, text)?;
+    Ok(compile(alloc, &c, kind(ListKind::Timestep, next, dump))?)
 }
 
 /// The numbers in a list of lists.
@@ -221,139 +56,81 @@ fn numbers(lists: &Items<Items<u32>>, k: usize) -> &[u32] {
     }
 }
 
-/// The line of a detailed task: its task, level, material, patch and combined line, what it reads and writes, who follows it, and how many
-/// it follows.
-fn task_line(alloc: Global, g: &Graph, k: usize, d: Detail) -> Result<String, Fail> {
-    let before = g.predecessors.as_slice().get(k).copied().unwrap_or(0);
-    let reads = numbers(&g.reads, k);
-    let writes = numbers(&g.writes, k);
-    let then = numbers(&g.successors, k);
-    Ok(format!(in alloc;
-        "{} {} {} {} {:?} reads {:?} writes {:?} then {:?} after {}\n",
-        d.task, d.level, d.material, d.patch, d.combine, reads, writes, then, before
-    )?)
-}
-
-/// A line for each slot, and one for each detailed task.
-fn listing(alloc: Global, plan: &Plan) -> Result<String, Fail> {
-    let mut text = String::new(alloc);
-    for (k, s) in plan.slots.as_slice().iter().enumerate() {
-        text.push_str(slot_line(alloc, plan, k, *s)?.as_str())?;
+/// The kind of a step, where the problem has the step.
+fn kind_at(c: &Checked, step: u32) -> Option<StepKind> {
+    if u64::from(step) <= c.problem().steps.value {
+        Some(kind_of(c, step))
+    } else {
+        None
     }
-    for (k, d) in plan.tasks.as_slice().iter().enumerate() {
-        text.push_str(task_line(alloc, &plan.graph, k, *d)?.as_str())?;
-    }
-    Ok(text)
-}
-
-fn kind(list: ListKind, next: bool, dump: bool) -> StepKind {
-    StepKind { list, next, dump }
 }
 
 #[test]
-fn two_patches_have_the_worked_plans(rt: HostRuntime) -> Result<(), Fail> {
-    let alloc = rt.alloc();
-    let c = checked(two_patches(alloc)?)?;
-    let init = compile(alloc, &c, kind(ListKind::Init, true, true))?;
-    assert_eq!(rt;
-        listing(alloc, &init)?.as_str(),
-        "\
-New 0 0 0 0 0 uses 2 true
-New 0 0 0 1 0 uses 2 true
-0 0 0 0 None reads [] writes [0] then [] after 0
-0 0 0 1 None reads [] writes [1] then [] after 0
-"
-    );
-    let timestep = compile(alloc, &c, kind(ListKind::Timestep, true, true))?;
-    assert_eq!(rt;
-        listing(alloc, &timestep)?.as_str(),
-        "\
-Old 0 0 0 0 0 uses 2 false
-Old 0 0 0 1 0 uses 2 false
-New 0 0 0 0 0 uses 2 true
-New 0 0 0 1 0 uses 2 true
-0 0 0 0 None reads [0, 1] writes [2] then [] after 0
-0 0 0 1 None reads [0, 1] writes [3] then [] after 0
-"
-    );
+fn steps_have_kinds(rt: HostRuntime) -> Result<(), Fail> {
+    let c = checked(rt.alloc(), TWO_PATCHES)?;
+    assert_eq!(rt; kind_at(&c, 0), Some(kind(ListKind::Init, true, true)));
+    assert_eq!(rt; kind_at(&c, 1), Some(kind(ListKind::Timestep, true, true)));
+    assert_eq!(rt; kind_at(&c, 2), Some(kind(ListKind::Timestep, false, true)));
     Ok(())
 }
 
 #[test]
-fn nothing_is_kept_where_nothing_wants_it(rt: HostRuntime) -> Result<(), Fail> {
-    let alloc = rt.alloc();
-    let c = checked(two_patches(alloc)?)?;
-    let last = compile(alloc, &c, kind(ListKind::Timestep, false, false))?;
-    assert_eq!(rt; last.graph.kept.as_slice(), [false; 4].as_slice());
-    assert_eq!(rt; last.graph.uses.as_slice(), [2, 2, 1, 1].as_slice());
-    assert_eq!(rt; kind_of(&c, 0), kind(ListKind::Init, true, true));
-    assert_eq!(rt; kind_of(&c, 2), kind(ListKind::Timestep, false, true));
+fn slots_are_kept_for_the_next_step_or_the_dump(rt: HostRuntime) -> Result<(), Fail> {
+    for (next, dump, kept) in [
+        (false, false, false),
+        (false, true, true),
+        (true, false, true),
+        (true, true, true),
+    ] {
+        let plan = timestep(rt.alloc(), TWO_PATCHES, next, dump)?;
+        assert_eq!(rt;
+            plan.graph.kept.as_slice(),
+            [false, false, kept, kept].as_slice()
+        );
+    }
     Ok(())
 }
 
-fn two_levels(alloc: Global, lines: &mut Lines) -> Result<Problem, NoMemory> {
-    let mut p = problem(alloc, lines, 1, 2)?;
-    p.levels.push(level(alloc, lines, 1, &[[0, 2, 0], [2, 4, 0]], [4, 1, 1])?)?;
-    p.levels.push(level(alloc, lines, 2, &[[0, 4, 0], [4, 8, 0]], [8, 2, 2])?)?;
-    variable(&mut p, lines, 0)?;
-    variable(&mut p, lines, 1)?;
-    reduction(&mut p, lines, 2)?;
-    p.init_line = lines.next();
-    let mut start = task(alloc, lines, 3, &[0, 1], &[0, 1])?;
-    write(&mut start, lines, WriteKind::Computes, 0)?;
-    write(&mut start, lines, WriteKind::Reduces(Centring::Cell), 2)?;
-    p.init.push(start)?;
-    Ok(p)
+#[test]
+fn what_nobody_reads_is_used_by_its_writer(rt: HostRuntime) -> Result<(), Fail> {
+    let plan = timestep(rt.alloc(), TWO_PATCHES, false, false)?;
+    assert_eq!(rt; plan.graph.uses.as_slice(), [2, 2, 1, 1].as_slice());
+    Ok(())
 }
 
-/// `u` is read before and after it is modified, and the reduction of the step before and of this one are read.
-fn readers(alloc: Global) -> Result<Problem, NoMemory> {
-    let mut lines = Lines(0);
-    let l = &mut lines;
-    let mut p = two_levels(alloc, l)?;
-    p.timestep_line = l.next();
-    let mut step = task(alloc, l, 4, &[0, 1], &[0, 1])?;
-    require(&mut step, l, Store::Old, same(0, 1))?;
-    require(&mut step, l, Store::Old, What::Number { name: 2 })?;
-    write(&mut step, l, WriteKind::Computes, 0)?;
-    p.timestep.push(step)?;
-    let layers = Ghost {
-        kind: GhostKind::None,
-        n: 0,
-    };
-    let mut before = task(alloc, l, 5, &[1], &[0])?;
-    require(&mut before, l, Store::New, What::Coarse { var: 0, layers })?;
-    write(&mut before, l, WriteKind::Computes, 1)?;
-    p.timestep.push(before)?;
-    let mut modify = task(alloc, l, 6, &[0], &[0])?;
-    require(&mut modify, l, Store::New, same(0, 0))?;
-    require(&mut modify, l, Store::New, What::Fine { var: 0 })?;
-    write(&mut modify, l, WriteKind::Modifies, 0)?;
-    p.timestep.push(modify)?;
-    let mut after = task(alloc, l, 7, &[0], &[0, 1])?;
-    require(&mut after, l, Store::New, same(0, 1))?;
-    write(&mut after, l, WriteKind::Computes, 1)?;
-    p.timestep.push(after)?;
-    let mut reduce = task(alloc, l, 8, &[0, 1], &[0, 1])?;
-    require(&mut reduce, l, Store::New, same(0, 0))?;
-    write(&mut reduce, l, WriteKind::Reduces(Centring::Cell), 2)?;
-    p.timestep.push(reduce)?;
-    let mut last = task(alloc, l, 9, &[1], &[1])?;
-    require(&mut last, l, Store::New, What::Number { name: 2 })?;
-    write(&mut last, l, WriteKind::Computes, 1)?;
-    p.timestep.push(last)?;
-    keep(&mut p, l, 0)?;
-    p.end_line = l.next();
-    Ok(p)
+fn detail(task: u32, level: u32, material: u32, patch: u32, combine: Option<u32>) -> Detail {
+    Detail {
+        task,
+        level,
+        material,
+        patch,
+        combine,
+    }
+}
+
+#[test]
+fn tasks_go_by_level_material_and_patch(rt: HostRuntime) -> Result<(), Fail> {
+    let plan = timestep(rt.alloc(), READERS, true, false)?;
+    let tasks = plan.tasks.as_slice();
+    assert_eq!(rt; tasks.len(), 27);
+    for (k, d) in [
+        (1, detail(0, 0, 0, 1, None)),
+        (2, detail(0, 0, 1, 0, None)),
+        (4, detail(0, 1, 0, 0, None)),
+        (8, detail(1, 1, 0, 0, None)),
+        (23, detail(4, 1, 1, 1, None)),
+        (24, detail(4, 0, 0, 0, Some(0))),
+        (25, detail(5, 1, 1, 0, None)),
+    ] {
+        assert_eq!(rt; tasks.get(k).copied(), Some(d));
+    }
+    Ok(())
 }
 
 #[test]
 fn each_reader_has_its_version(rt: HostRuntime) -> Result<(), Fail> {
-    let alloc = rt.alloc();
-    let c = checked(readers(alloc)?)?;
-    let plan = compile(alloc, &c, kind(ListKind::Timestep, true, false))?;
+    let plan = timestep(rt.alloc(), READERS, true, false)?;
     let reads = &plan.graph.reads;
-    assert_eq!(rt; plan.graph.tasks, 27);
     assert_eq!(rt; plan.graph.old, 9);
     assert_eq!(rt; plan.graph.slots, 36);
     // What stood before, on both patches of the own material and level, and the reduction.
@@ -365,93 +142,72 @@ fn each_reader_has_its_version(rt: HostRuntime) -> Result<(), Fail> {
     // Behind the modify, of its material and of the other one.
     assert_eq!(rt; numbers(reads, 12), [19, 20].as_slice());
     assert_eq!(rt; numbers(reads, 14), [11, 12].as_slice());
-    // The parts of both materials and levels, and who waits for their number.
-    assert_eq!(rt;
-        numbers(reads, 24),
-        [25, 26, 27, 28, 29, 30, 31, 32].as_slice()
-    );
-    assert_eq!(rt; numbers(&plan.graph.successors, 24), [25, 26].as_slice());
+    Ok(())
+}
+
+#[test]
+fn a_number_is_read_behind_all_its_parts(rt: HostRuntime) -> Result<(), Fail> {
+    let graph = timestep(rt.alloc(), READERS, true, false)?.graph;
+    let parts = [25, 26, 27, 28, 29, 30, 31, 32];
+    assert_eq!(rt; numbers(&graph.reads, 24), parts.as_slice());
+    assert_eq!(rt; numbers(&graph.successors, 24), [25, 26].as_slice());
+    assert_eq!(rt; numbers(&graph.reads, 25), [33].as_slice());
     Ok(())
 }
 
 #[test]
 fn the_last_version_is_kept(rt: HostRuntime) -> Result<(), Fail> {
-    let alloc = rt.alloc();
-    let c = checked(readers(alloc)?)?;
-    let next = compile(alloc, &c, kind(ListKind::Timestep, true, false))?;
-    let kept = next.graph.kept.as_slice();
+    let graph = timestep(rt.alloc(), READERS, true, false)?.graph;
     // The first version on material 0 and level 0, the last one there, the reduction's number, and a variable that no step reads.
-    assert_eq!(rt; kept.get(9).copied(), Some(false));
-    assert_eq!(rt; kept.get(19).copied(), Some(true));
-    assert_eq!(rt; kept.get(33).copied(), Some(true));
-    assert_eq!(rt; kept.get(17).copied(), Some(false));
-    let dump = compile(alloc, &c, kind(ListKind::Timestep, false, true))?;
-    assert_eq!(rt; dump.graph.kept.as_slice().get(19).copied(), Some(true));
-    assert_eq!(rt; dump.graph.kept.as_slice().get(33).copied(), Some(false));
+    for (k, kept) in [(9, false), (19, true), (33, true), (17, false)] {
+        assert_eq!(rt; graph.kept.as_slice().get(k).copied(), Some(kept));
+    }
     Ok(())
 }
 
-/// A level of 32 x 32 cells, each a patch.
-fn many_patches(alloc: Global, lines: &mut Lines) -> Result<Level, NoMemory> {
-    let line = lines.next();
-    let mut boxes = Items::new(alloc);
-    boxes.push(BoxLine {
-        line: lines.next(),
-        lo: [0, 0, 0],
-        hi: [32, 32, 1],
-    })?;
-    let mut patches = Items::new(alloc);
-    for k in 0..1024u64 {
-        patches.push(BoxLine {
-            line: lines.next(),
-            lo: [k % 32, k / 32, 0],
-            hi: [k % 32 + 1, k / 32 + 1, 1],
-        })?;
+#[test]
+fn the_dump_keeps_its_names_alone(rt: HostRuntime) -> Result<(), Fail> {
+    let graph = timestep(rt.alloc(), READERS, false, true)?.graph;
+    for (k, kept) in [(19, true), (33, false)] {
+        assert_eq!(rt; graph.kept.as_slice().get(k).copied(), Some(kept));
     }
-    Ok(Level {
-        line,
-        ratio: 1,
-        boxes,
-        patches,
-    })
+    Ok(())
 }
 
-/// `u` on 1,024 patches and 8 materials, and then from itself by 8 layers of ghost cells.
-fn wide(alloc: Global) -> Result<Problem, NoMemory> {
-    let mut lines = Lines(0);
-    let l = &mut lines;
-    let mut p = problem(alloc, l, 2, 8)?;
-    p.ghost_limit.value = 8;
-    p.levels.push(many_patches(alloc, l)?)?;
-    variable(&mut p, l, 0)?;
-    let materials = [0, 1, 2, 3, 4, 5, 6, 7];
-    p.init_line = l.next();
-    let mut start = task(alloc, l, 1, &[0], &materials)?;
-    write(&mut start, l, WriteKind::Computes, 0)?;
-    p.init.push(start)?;
-    p.timestep_line = l.next();
-    let mut shift = task(alloc, l, 2, &[0], &materials)?;
-    require(&mut shift, l, Store::Old, same(0, 8))?;
-    write(&mut shift, l, WriteKind::Computes, 0)?;
-    p.timestep.push(shift)?;
-    p.end_line = l.next();
-    Ok(p)
+/// The line of a patch of one cell.
+fn cell_patch(alloc: Global, k: u64) -> Result<String, Fail> {
+    let (x, y) = (k % 32, k / 32);
+    Ok(format!(in alloc; "patch {} {} 0 {} {} 1\n", x, y, x + 1, y + 1)?)
+}
+
+/// A level of 1,024 patches.
+fn wide_level(alloc: Global) -> Result<String, Fail> {
+    let mut text = WIDE_LEVEL.to_string(alloc)?;
+    for k in 0..1024 {
+        text.push_str(cell_patch(alloc, k)?.as_str())?;
+    }
+    Ok(text)
+}
+
+fn wide(alloc: Global) -> Result<String, Fail> {
+    let mut text = wide_level(alloc)?;
+    text.push_str(WIDE_TASKS)?;
+    Ok(text)
 }
 
 /// How many numbers the lists have together.
 fn total(lists: &Items<Items<u32>>) -> usize {
-    let mut total = 0;
+    let mut total = 0usize;
     for list in lists.as_slice() {
-        total += list.len();
+        total = total.wrapping_add(list.len());
     }
     total
 }
 
 #[test]
 fn wide_windows_read_many_slots(rt: HostRuntime) -> Result<(), Fail> {
-    let alloc = rt.alloc();
-    let c = checked(wide(alloc)?)?;
-    let plan = compile(alloc, &c, kind(ListKind::Timestep, true, true))?;
+    let text = wide(rt.alloc())?;
+    let plan = timestep(rt.alloc(), text.as_str(), true, true)?;
     assert_eq!(rt; total(&plan.graph.reads), 1_782_272);
     assert_eq!(rt; plan.graph.slots, 16_384);
     Ok(())
