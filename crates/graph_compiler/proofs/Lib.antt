@@ -8,6 +8,7 @@ mod ValidGraphs
 mod ValidDetails
 mod ValidForward
 mod ValidPlans
+mod CountedPlans
 pub mod Compiled
 pub mod Standing
 pub mod Laying

@@ -20,5 +20,5 @@ mod written;
 
 pub use compiling::compile;
 pub use kinds::kind_of;
-pub use laws::plans_are_valid;
+pub use laws::{plans_are_counted, plans_are_valid};
 pub use plan::{Detail, ListKind, Plan, Slot, SlotKind, StepKind};
