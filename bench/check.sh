@@ -1,6 +1,6 @@
 #!/usr/bin/env bash
-# Times `uts check` on texts with levels of 1,024 patches, in one run on one machine: the best of three wall-clock times of each, the
-# most memory that it took, and what it answered. The program has to be built.
+# Times `uts check` and `uts graph` on texts with levels of 1,024 patches, in one run on one machine: the best of three wall-clock times of
+# each, the most memory that it took, and what it answered, of a listing the sizes of the plans. The program has to be built.
 set -eu
 
 top=$(dirname -- "$(dirname -- "$(readlink -f -- "${BASH_SOURCE[0]}")")")
@@ -115,21 +115,29 @@ repeated() {
     printf '%s\n' "computes u = 0" end
 }
 
+# What stands on the streams of a call, of a listing the first lines of its plans.
+answer() {
+    grep '^plan' -- "$room/out" || cat -- "$room/out" "$room/err"
+}
+
+# The text's line in the table, by one command.
 measure() {
-    local best=999 seconds answer memory
+    local best=999 seconds memory
     for _ in 1 2 3; do
-        /usr/bin/time -f '%e %M' -o "$room/time" "$program" check <"$room/text" >"$room/out" 2>"$room/err" || true
+        /usr/bin/time -f '%e %M' -o "$room/time" "$program" "$1" <"$room/text" >"$room/out" 2>"$room/err" || true
         read -r seconds memory <<<"$(tail -n 1 -- "$room/time")"
         best=$(printf '%s\n%s\n' "$best" "$seconds" | sort -g | head -n 1)
     done
-    answer=$(cat -- "$room/out" "$room/err")
-    printf '%-34s %6s s %8s kB   %s\n' "$1" "$best" "$memory" "$answer"
+    printf '%-5s %-34s %6s s %8s kB   %s\n' "$1" "$2" "$best" "$memory" "$(answer | paste -s -d ' ')"
 }
 
-windows 1 >"$room/text" && measure "windows of 8 layers, one variable"
-windows 2 >"$room/text" && measure "the same, two variables"
-many 14 33 none >"$room/text" && measure "3,696 windows without layers"
-many 8 30 "cells 1" >"$room/text" && measure "1,920 windows of one layer"
-different >"$room/text" && measure "1,056 windows of 135 kinds"
-corner >"$room/text" && measure "1,800 old windows in a corner"
-repeated >"$room/text" && measure "50,000 equal requirements"
+windows 1 >"$room/text" && measure check "windows of 8 layers, one variable"
+measure graph "the same"
+windows 2 >"$room/text" && measure check "windows of two variables"
+many 14 33 none >"$room/text" && measure check "3,696 windows without layers"
+measure graph "the same"
+many 8 30 "cells 1" >"$room/text" && measure check "1,920 windows of one layer"
+different >"$room/text" && measure check "1,056 windows of 135 kinds"
+corner >"$room/text" && measure check "1,800 old windows in a corner"
+measure graph "the same"
+repeated >"$room/text" && measure check "50,000 equal requirements"
