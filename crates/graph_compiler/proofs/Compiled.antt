@@ -14,14 +14,13 @@ use Rattle.graph_types.specs.Graph.{IsValid}
 use Rattle.graph_types.specs.Linked.{IsLinkable, linked}
 use Rattle.task_check.specs.Bounds.{AreBoundedTasks, IsBounded}
 use Rattle.task_check.specs.First.{IsAccepted}
-use Rattle.task_check.specs.Plan.{details_of, is_read, old_numbers, old_variables, slots_of, written_by}
+use Rattle.task_check.specs.Plan.{Slot as TaskSlot, details_of, is_read, old_numbers, old_variables, slots_of, written_by}
 use Rattle.graph_compiler.specs.Kept.{kept_slots}
 use Rattle.graph_compiler.specs.Kinds.{list_number, tasks_in}
 use Rattle.graph_compiler.specs.Layouts.{AreLaidOut}
-use Rattle.graph_compiler.specs.Places.{AreOldSlots, read_slots}
+use Rattle.graph_compiler.specs.Places.{AreOldSlots}
 use Rattle.graph_compiler.specs.Plan.{graph_of, plan_of, reads_of_list, slots_of_list, tasks_of_list, unlinked, writes_of_list}
 use Rattle.graph_compiler.specs.Shown.{shown_slot}
-use Rattle.graph_compiler.specs.declared.old_reads.OldReads.{OldReads}
 use Rattle.graph_compiler.specs.declared.old_slots.OldSlots.{OldSlots}
 use Rattle.graph_compiler.specs.declared.plan.Detail.{Detail}
 use Rattle.graph_compiler.specs.declared.layout.Layout.{Layout}
@@ -109,11 +108,13 @@ module _ (p : Problem) (k : StepKind) (form : IsProblemInForm p) (accepted : IsA
 
 -- what is known of the tasks of a list
 pub record IsCompiled (p : Problem) (k : StepKind) (tasks : List Task) : Type 0 where
+  pub form : IsProblemInForm p
+  pub accepted : IsAccepted p
+  pub listed : tasks ≡ tasks_in p k.list
   pub bounded : AreBoundedTasks p tasks
   pub short : All (λ t. IsShort t.writes) tasks
   pub few_slots : length (slots_of p tasks) ≤ 262144
   pub list : (list : ℕ) × (list < 2) × (tasks ≡ task_list p list)
-  pub marked : tasks ≡ task_list p (list_number k.list)
   pub linkable : IsLinkable (unlinked (olds_count p tasks) (reads_of_list p tasks) (writes_of_list p tasks) (kept_slots p k (slots_of_list p tasks)))
   pub plan : (g : Graph) (details : List Detail) (slots : List Slot)
       → g ≡ linked (unlinked (olds_count p tasks) (reads_of_list p tasks) (writes_of_list p tasks) (kept_slots p k (slots_of_list p tasks)))
@@ -121,39 +122,55 @@ pub record IsCompiled (p : Problem) (k : StepKind) (tasks : List Task) : Type 0 
 
 pub is_compiled : (p : Problem) (k : StepKind) (tasks : List Task) → IsProblemInForm p → IsAccepted p → IsBounded p → tasks ≡ tasks_in p k.list → IsCompiled p k tasks
 is_compiled p k tasks form accepted limits is = subst (IsCompiled p k) (sym is) (record {
+  form = form;
+  accepted = accepted;
+  listed = refl;
   bounded = bounded_tasks p k.list limits;
   short = short_lines p (tasks_in p k.list) (bounded_tasks p k.list limits);
   few_slots = few_slots p k form accepted;
   list = (list_number k.list, of_two k.list, list_is p k.list);
-  marked = list_is p k.list;
   linkable = linkable p k form accepted;
   plan = plan_from p k form accepted;
 })
 
--- the same graph from equal parts
-pub same_unlinked : (old n : ℕ) (reads rs writes ws : List (List ℕ)) (kept ks : List Bool) → old ≡ n → reads ≡ rs → writes ≡ ws → kept ≡ ks
-    → unlinked old reads writes kept ≡ unlinked n rs ws ks
-same_unlinked old n reads rs writes ws kept ks o r w k =
-    ap (λ (m : ℕ). unlinked m reads writes kept) o
-    ∙ ap (λ (xs : List (List ℕ)). unlinked n xs writes kept) r
-    ∙ ap (λ (xs : List (List ℕ)). unlinked n rs xs kept) w
-    ∙ ap (λ (xs : List Bool). unlinked n rs ws xs) k
+-- the old slots of the list, once they are found
+module _ (p : Problem) (k : StepKind) (tasks : List Task) (compiled : IsCompiled p k tasks) (old : OldSlots) (before : AreOldSlots p (tasks_in p k.list) old) where
+  abbrev read_before : List TaskSlot
+  read_before = filter (is_read p tasks) (old_variables p ++ old_numbers p)
 
--- the old slots that are found for the list are those of its tasks, and so is their number
-module _ (p : Problem) (k : StepKind) (tasks : List Task) (compiled : IsCompiled p k tasks) (n : ℕ) (is : n ≡ list_number k.list) (reads : OldReads)
-    (variables : reads.variables.items ≡ map (is_read p (task_list p n)) (old_variables p)) (numbers : reads.numbers.items ≡ map (is_read p (task_list p n)) (old_numbers p))
-    (slots : reads.slots ≡ read_slots p (task_list p n)) (old : OldSlots)
-    (found : (q : Problem) (ts : List Task) → reads.variables.items ≡ map (is_read q ts) (old_variables q) → reads.numbers.items ≡ map (is_read q ts) (old_numbers q)
-    → reads.slots ≡ read_slots q ts → AreOldSlots q ts old) where
+  abbrev written : List TaskSlot
+  written = flat_map (written_by tasks) (details_of p tasks)
+
+  -- they are those of its tasks, and few
   pub old_found : AreOldSlots p tasks old
-  old_found = subst (λ (ts : List Task). AreOldSlots p ts old) (ap (task_list p) is ∙ sym compiled.marked) (found p (task_list p n) variables numbers slots)
+  old_found = subst (λ (ts : List Task). AreOldSlots p ts old) (sym compiled.listed) before
 
   pub old_counted : length old.slots ≡ olds_count p tasks
-  old_counted = ap length old_found.slots ∙ length-map (filter (is_read p tasks) (old_variables p ++ old_numbers p)) (shown_slot tasks)
+  old_counted = ap length old_found.slots ∙ length-map read_before (shown_slot tasks)
 
--- the old slots are few
-pub few_olds : (p : Problem) (k : StepKind) (tasks : List Task) → IsCompiled p k tasks → olds_count p tasks ≤ 262144
-few_olds p k tasks compiled = omega (arith, compiled.few_slots, length-append (filter (is_read p tasks) (old_variables p ++ old_numbers p)) (flat_map (written_by tasks) (details_of p tasks)))
+  pub few_olds : length old.slots ≤ 262144
+  few_olds = omega (arith, old_counted, compiled.few_slots, length-append read_before written)
+
+  -- with what is written behind them they are all slots of the list
+  pub slots_found : (slots : List Slot) → slots ≡ old.slots ++ map (shown_slot tasks) written → slots ≡ slots_of_list p tasks
+  slots_found slots grown =
+      grown ∙ ap (λ (xs : List Slot). xs ++ map (shown_slot tasks) written) old_found.slots ∙ sym (map-append (shown_slot tasks) read_before written)
+
+  -- the graph is that of the list, by who reads and writes what and what is kept
+  pub same_unlinked : {layouts seen : List Layout} {slots shown : List Slot} {count : ℕ} {reads writes : List (List ℕ)} {kept : List Bool}
+      → AreLaidOut p tasks layouts → seen ≡ layouts → slots ≡ old.slots ++ map (shown_slot tasks) written → shown ≡ slots → count ≡ length old.slots
+      → reads ≡ reads_of_list p tasks
+      → ((q : Problem) (ts : List Task) → IsProblemInForm q → IsAccepted q → AreBoundedTasks q ts → (list : ℕ) → list < 2 → ts ≡ task_list q list
+      → AreLaidOut q ts seen → writes ≡ writes_of_list q ts)
+      → kept ≡ kept_slots p k shown
+      → unlinked count reads writes kept ≡ unlinked (olds_count p tasks) (reads_of_list p tasks) (writes_of_list p tasks) (kept_slots p k (slots_of_list p tasks))
+  same_unlinked {layouts} {seen} {slots} {shown} {count} {reads} {writes} {kept} laid seen_is grown shown_is counted reads_are writes_are kept_are =
+      ap (λ (n : ℕ). unlinked n reads writes kept) (counted ∙ old_counted)
+      ∙ ap (λ (xs : List (List ℕ)). unlinked (olds_count p tasks) xs writes kept) reads_are
+      ∙ ap (λ (xs : List (List ℕ)). unlinked (olds_count p tasks) (reads_of_list p tasks) xs kept)
+      (writes_are p tasks compiled.form compiled.accepted compiled.bounded compiled.list.0 compiled.list.1 compiled.list.2 (subst (AreLaidOut p tasks) (sym seen_is) laid))
+      ∙ ap (λ (xs : List Bool). unlinked (olds_count p tasks) (reads_of_list p tasks) (writes_of_list p tasks) xs)
+      (kept_are ∙ ap (kept_slots p k) (shown_is ∙ slots_found slots grown))
 
 -- the slots of each layout are few
 pub are_few : (p : Problem) (tasks : List Task) (layouts : List Layout) → AreLaidOut p tasks layouts
@@ -161,8 +178,3 @@ pub are_few : (p : Problem) (tasks : List Task) (layouts : List Layout) → AreL
 are_few p tasks layouts laid = λ place d below.
     let t = placed tasks place (omega (arith, laid.count)) in
     (laid.each place t.0 (get_or layouts place d) t.1 (slice_get-get_or layouts place d below)).few
-
--- old slots and what is written are all slots of a list
-pub slots_joined : (p : Problem) (tasks : List Task) → map (shown_slot tasks) (filter (is_read p tasks) (old_variables p ++ old_numbers p))
-    ++ map (shown_slot tasks) (flat_map (written_by tasks) (details_of p tasks)) ≡ slots_of_list p tasks
-slots_joined p tasks = sym (map-append (shown_slot tasks) (filter (is_read p tasks) (old_variables p ++ old_numbers p)) (flat_map (written_by tasks) (details_of p tasks)))

@@ -27,7 +27,8 @@ use Rattle.graph_compiler.specs.Shown.{of_line, shown_slot}
 use Rattle.graph_compiler.specs.declared.plan.ListKind.{ListKind}
 use Rattle.graph_compiler.specs.declared.plan.ListKind.TheVariants as list
 use Rattle.graph_compiler.specs.declared.plan.Slot.{Slot}
-use Rattle.graph_compiler.proofs.Standing.{IsNumberOf, IsOfList, IsOnPatch, slot_is_of_list}
+use Rattle.graph_compiler.specs.Slots.{IsNumberOf, IsOfList, IsOnPatch}
+use Rattle.graph_compiler.proofs.Standing.{slot_is_of_list}
 use Rattle.graph_compiler.proofs.ValidLists.{all_at, placed}
 
 -- the tasks of a list are bounded

@@ -18,6 +18,7 @@ use Rattle.task_check.specs.First.{IsAccepted, IsFaultless}
 use Rattle.task_check.specs.Lines.{IsWrittenBefore}
 use Rattle.task_check.specs.Plan.{Slot, is_line_of, line_is}
 use Rattle.graph_compiler.specs.Places.{StandsAt}
+use Rattle.graph_compiler.specs.Slots.{AreOnce}
 use Rattle.graph_compiler.proofs.Standing.{slots_stand_once}
 use Rattle.graph_compiler.proofs.ValidForward.{found_at, get-take, reduced_once}
 use Rattle.graph_compiler.proofs.ValidLists.{any_at, of_option}
@@ -120,12 +121,6 @@ module _ (p : Problem) (faultless : IsFaultless p) (list : ℕ) (of_two : list <
           absurd (reduced_once p faultless list of_two name s t first.t second.t before first.task_at second.task_at (reducing s a first) (reducing t b second))
       by_order first second (inr (inr after)) =
           absurd (reduced_once p faultless list of_two name t s second.t first.t after second.task_at first.task_at (reducing t b second) (reducing s a first))
-
--- what stands once in a list
-pub record AreOnce (p : Problem) (tasks : List Task) : Type 0 where
-  pub slots : (i j : ℕ) (s : Slot) → StandsAt p tasks i s → StandsAt p tasks j s → i ≡ j
-  pub fields : (name task a b : ℕ) → is_line_of tasks (λ w. is_of_field w.kind) name task a ≡ true → is_line_of tasks (λ w. is_of_field w.kind) name task b ≡ true → a ≡ b
-  pub numbers : (name s a t b : ℕ) → is_line_of tasks (λ w. is_reduces w.kind) name s a ≡ true → is_line_of tasks (λ w. is_reduces w.kind) name t b ≡ true → (s ≡ t) × (a ≡ b)
 
 pub are_once : (p : Problem) (tasks : List Task) → IsProblemInForm p → IsAccepted p → (list : ℕ) × (list < 2) × (tasks ≡ task_list p list) → AreOnce p tasks
 are_once p all form accepted which = subst (AreOnce p) (sym which.2) (record {

@@ -25,6 +25,7 @@ use Rattle.task_check.specs.First.{IsAccepted, IsFaultless}
 use Rattle.task_check.specs.Plan.{Detail, OnPatch, Combining, Slot, Old, OldNumber, New, Part, Number, combining, details_of, is_read, line_is, old_numbers, old_variables, on_patches, patch_of, patches_of, reads, slot_written, slots_of, wants, written_by}
 use Rattle.graph_compiler.specs.Places.{StandsAt}
 use Rattle.graph_compiler.specs.Plan.{is_old}
+use Rattle.graph_compiler.specs.Slots.{IsDetailOf, IsNumberOf, IsOfList, IsOldOn, IsOnPatch}
 use Rattle.graph_compiler.proofs.LastVersions.{list_any-flat_map}
 use Rattle.graph_compiler.proofs.ValidDetails.{Before, IsBy, not_itself, one_writer, written_are_new, written_is_by}
 use Rattle.graph_compiler.proofs.ValidForward.{get-take}
@@ -238,42 +239,6 @@ module _ (p : Problem) (form : IsProblemInForm p) (accepted : IsAccepted p) (lis
 
 -- ---- which slots a list has
 
--- of a variable that is declared, on a level, a material and a patch of the problem
-pub record IsOldOn (p : Problem) (name level material patch : ℕ) : Type 0 where
-  pub variable : Var
-  pub declared : Contains p.vars variable
-  pub named : variable.name ≡ name
-  pub of_levels : level < length p.levels
-  pub of_materials : material < p.materials.value
-  pub of_patches : patch < length (patches_of p level)
-
--- of a line of such a kind of a task of the list, on a patch of a level and a material of the task
-pub record IsOnPatch (p : Problem) (tasks : List Task) (task line level material patch : ℕ) (fits : WriteKind → Bool) : Type 0 where
-  pub t : Task
-  pub w : Write
-  pub task_at : slice_get tasks task ≡ Some t
-  pub line_at : slice_get t.writes line ≡ Some w
-  pub of_kind : fits w.kind ≡ true
-  pub of_levels : Contains t.levels level
-  pub of_materials : Contains t.materials material
-  pub of_patches : patch < length (patches_of p level)
-
--- of a line of a task of the list that reduces
-pub record IsNumberOf (tasks : List Task) (task line : ℕ) : Type 0 where
-  pub t : Task
-  pub w : Write
-  pub task_at : slice_get tasks task ≡ Some t
-  pub line_at : slice_get t.writes line ≡ Some w
-  pub of_kind : is_reduces w.kind ≡ true
-
--- what stands in a list, by the kind of the slot
-abbrev pub IsOfList : Problem → List Task → Slot → Type 0
-IsOfList p tasks (Old name level material patch) = IsOldOn p name level material patch
-IsOfList p tasks (OldNumber name) = Any (λ q. q.name ≡ name) p.reductions
-IsOfList p tasks (New task line level material patch) = IsOnPatch p tasks task line level material patch is_of_field
-IsOfList p tasks (Part task line level material patch) = IsOnPatch p tasks task line level material patch is_reduces
-IsOfList p tasks (Number task line) = IsNumberOf tasks task line
-
 module _ (p : Problem) (tasks : List Task) where
   abbrev is_of_list : Slot → Type 0
   is_of_list s = IsOfList p tasks s
@@ -329,25 +294,54 @@ module _ (p : Problem) (tasks : List Task) where
         let w = of_option (λ (w : Write). is_reduces w.kind) (slice_get t.writes line) reduces in
         All-cons is_of_list (Number task line) [] (record { t = t; w = w.0; task_at = at; line_at = w.1; of_kind = w.2 }) (All-nil is_of_list)
 
-    abbrev lines_here : List ℕ
-    lines_here = filter (line_is t.writes (λ w. is_reduces w.kind)) (counted 0 (length t.writes))
+  -- ---- which detailed tasks a list has
 
-    of_task : All are_of_list (on_patches p task t ++ combining task t)
-    of_task = All-append are_of_list (on_patches p task t) (combining task t)
-        (all-flat_map are_of_list (λ level. flat_map (λ material. map (OnPatch task level material) (patches_of p level)) t.materials) t.levels (λ i level on_level.
-        all-flat_map are_of_list (λ material. map (OnPatch task (get_or t.levels i level) material) (patches_of p (get_or t.levels i level))) t.materials (λ j material on_material.
-        All-map are_of_list (OnPatch task (get_or t.levels i level) (get_or t.materials j material)) (patches_of p (get_or t.levels i level)) (λ k patch on.
-        of_patch (get_or t.levels i level) (get_or t.materials j material) (get_or (patches_of p (get_or t.levels i level)) k patch)
-        (Contains-get_or t.levels i level on_level) (Contains-get_or t.materials j material on_material)
-        (in_counted (option_map_or (λ l. length l.patches) (slice_get p.levels (get_or t.levels i level)) 0) k patch on)))))
-        (All-map are_of_list (Combining task) lines_here (λ i line on. of_combining (get_or lines_here i line) (filter_passes (line_is t.writes (λ w. is_reduces w.kind)) (counted 0 (length t.writes)) i line on)))
+  -- what holds of a task on a patch, and for a line that reduces
+  module _ (P : Detail → Type 0)
+      (on_patch : (task level material patch : ℕ) (t : Task) → slice_get tasks task ≡ Some t → Contains t.levels level → Contains t.materials material → patch < length (patches_of p level)
+      → P (OnPatch task level material patch))
+      (for_line : (task line : ℕ) (t : Task) → slice_get tasks task ≡ Some t → line_is t.writes (λ w. is_reduces w.kind) line ≡ true → P (Combining task line)) where
+    module _ (task : ℕ) (t : Task) (at : slice_get tasks task ≡ Some t) where
+      abbrev lines_here : List ℕ
+      lines_here = filter (line_is t.writes (λ w. is_reduces w.kind)) (counted 0 (length t.writes))
+
+      of_task : All P (on_patches p task t ++ combining task t)
+      of_task = All-append P (on_patches p task t) (combining task t)
+          (all-flat_map P (λ level. flat_map (λ material. map (OnPatch task level material) (patches_of p level)) t.materials) t.levels (λ i level on_level.
+          all-flat_map P (λ material. map (OnPatch task (get_or t.levels i level) material) (patches_of p (get_or t.levels i level))) t.materials (λ j material on_material.
+          All-map P (OnPatch task (get_or t.levels i level) (get_or t.materials j material)) (patches_of p (get_or t.levels i level)) (λ k patch on.
+          on_patch task (get_or t.levels i level) (get_or t.materials j material) (get_or (patches_of p (get_or t.levels i level)) k patch) t at
+          (Contains-get_or t.levels i level on_level) (Contains-get_or t.materials j material on_material)
+          (in_counted (option_map_or (λ l. length l.patches) (slice_get p.levels (get_or t.levels i level)) 0) k patch on)))))
+          (All-map P (Combining task) lines_here (λ i line on. for_line task (get_or lines_here i line) t at (filter_passes (line_is t.writes (λ w. is_reduces w.kind)) (counted 0 (length t.writes)) i line on)))
+
+    every_detail : All P (details_of p tasks)
+    every_detail = all-flat_map P (λ place. option_map_or (λ t. on_patches p place t ++ combining place t) (slice_get tasks place) []) (counted 0 (length tasks)) (λ i place on.
+        all-option P (λ t. on_patches p (get_or (counted 0 (length tasks)) i place) t ++ combining (get_or (counted 0 (length tasks)) i place) t)
+        (slice_get tasks (get_or (counted 0 (length tasks)) i place)) (λ t at. of_task (get_or (counted 0 (length tasks)) i place) t at))
+
+  -- a detailed task that stands is one of these
+  pub detail_is_of_list : (place : ℕ) (d : Detail) → slice_get (details_of p tasks) place ≡ Some d → IsDetailOf p tasks d
+  detail_is_of_list place d at = all_at (IsDetailOf p tasks) (details_of p tasks) place d at (every_detail (IsDetailOf p tasks)
+      (λ task level material patch t there level_there material_there patch_there. record {
+        t = t;
+        task_at = there;
+        of_levels = level_there;
+        of_materials = material_there;
+        of_patches = patch_there;
+      })
+      (λ task line t there reduces. reduced task line t there reduces))
+    where
+      reduced : (task line : ℕ) (t : Task) → slice_get tasks task ≡ Some t → line_is t.writes (λ w. is_reduces w.kind) line ≡ true → IsNumberOf tasks task line
+      reduced task line t there reduces =
+          let w = of_option (λ (w : Write). is_reduces w.kind) (slice_get t.writes line) reduces in
+          record { t = t; w = w.0; task_at = there; line_at = w.1; of_kind = w.2 }
 
   all_of_list : All is_of_list (slots_of p tasks)
   all_of_list = All-append is_of_list (filter (is_read p tasks) (old_variables p ++ old_numbers p)) (flat_map (written_by tasks) (details_of p tasks)) olds_are_of_list
       (all-flat_map is_of_list (written_by tasks) (details_of p tasks)
-      (all-flat_map are_of_list (λ place. option_map_or (λ t. on_patches p place t ++ combining place t) (slice_get tasks place) []) (counted 0 (length tasks)) (λ i place on.
-      all-option are_of_list (λ t. on_patches p (get_or (counted 0 (length tasks)) i place) t ++ combining (get_or (counted 0 (length tasks)) i place) t)
-      (slice_get tasks (get_or (counted 0 (length tasks)) i place)) (λ t at. of_task (get_or (counted 0 (length tasks)) i place) t at))))
+      (every_detail are_of_list (λ task level material patch t at level_there material_there patch_there. of_patch task t at level material patch level_there material_there patch_there)
+      (λ task line t at reduces. of_combining task t at line reduces)))
 
   -- a slot that stands is one of these
   pub slot_is_of_list : (place : ℕ) (s : Slot) → StandsAt p tasks place s → IsOfList p tasks s

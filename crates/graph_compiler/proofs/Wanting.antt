@@ -24,9 +24,9 @@ use Rattle.graph_compiler.specs.declared.sources.Source.{Source}
 use Rattle.graph_compiler.specs.declared.sources.Source.TheVariants as source
 use Rattle.graph_compiler.specs.declared.touched.Touched.{Touched}
 use Rattle.graph_compiler.proofs.LastVersions.{list_any-map}
-use Rattle.graph_compiler.proofs.OneLine.{AreOnce}
 use Rattle.graph_compiler.proofs.Placed.{last_is_writer, no_writer, none_at, one_writer, position_none, same_tests}
-use Rattle.graph_compiler.proofs.Standing.{IsOfList, contained_at, in_counted, slot_is_of_list, wanted_is_read}
+use Rattle.graph_compiler.specs.Slots.{AreOnce, IsOfList}
+use Rattle.graph_compiler.proofs.Standing.{contained_at, in_counted, slot_is_of_list, wanted_is_read}
 use Rattle.graph_compiler.proofs.ValidLists.{all_at, any_at, at_place}
 
 -- ---- lists

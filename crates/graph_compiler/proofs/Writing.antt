@@ -1,26 +1,27 @@
 -- The slots that each detailed task writes, task by task.
-use Rattle.std.proofs.Common.{◌≡◌, ◌∙◌, ◌<◌, ◌+◌, ◌-◌, ◌*◌, ℕ, List, [], ◌∷◌, ◌++◌, Bool, true, false, Option, Some, length, map, get_or, ap, sym, refl, arith, subst}
+use Rattle.std.proofs.Common.{◌≡◌, ◌∙◌, ◌<◌, ◌+◌, ◌-◌, ◌*◌, ℕ, List, [], ◌∷◌, ◌++◌, Bool, true, false, Option, Some, length, map, take, filter, get_or, ap, sym, refl, arith, subst}
 use Rattle.std.specs.Prelude.{slice_get, All}
-use Rattle.std.specs.List.{flat_map}
+use Rattle.std.specs.List.{flat_map, sum_by}
 use Rattle.std.specs.Option.{option_map_or}
 use Rattle.std.proofs.lemmas.List.{ext_get_or, get_or-map, length-map, map-append}
 use Rattle.std.proofs.lemmas.List.Elements.{All-from_get_or, All-tail}
 use Rattle.std.proofs.lemmas.Option.{get_or_from_slice_get, same_Some, slice_get_within}
 use Rattle.uts_geom.specs.Spans.{counted}
-use Rattle.uts_geom.specs.Counting.{counted-at, length-counted}
+use Rattle.uts_geom.specs.Counting.{counted-at, get-counted, get_right, length-counted}
 use Rattle.problem_types.specs.Form.{IsProblemInForm}
 use Rattle.problem_types.specs.Lists.{task_list}
 use Rattle.problem_types.specs.declared.problem.Problem.{Problem}
 use Rattle.problem_types.specs.declared.problem.Task.{Task}
 use Rattle.task_check.specs.First.{IsAccepted}
-use Rattle.task_check.specs.Plan.{Detail, Slot, combining, on_patches, slots_of, written_by}
+use Rattle.task_check.specs.Plan.{Detail, Slot, combining, details_of, is_read, old_numbers, old_variables, on_patches, slots_of, written_by}
 use Rattle.graph_types.specs.Graph.{has}
 use Rattle.graph_compiler.specs.Layouts.{AreLaidOut, IsLaidOut, rows, rows_of}
 use Rattle.graph_compiler.specs.Places.{StandsAt}
 use Rattle.graph_compiler.specs.Plan.{is_same, is_writing, places_of, writes_of_list}
 use Rattle.graph_compiler.specs.declared.layout.Layout.{Layout}
 use Rattle.graph_compiler.proofs.Ascending.{are_places, counted-ascends, counted-at-low, counted-has, has-counted}
-use Rattle.graph_compiler.proofs.Laying.{details_at, each_one, each_size}
+use Rattle.graph_compiler.specs.Slots.{StandInOrder}
+use Rattle.graph_compiler.proofs.Laying.{details_at, each_one, each_size, get-joined}
 use Rattle.graph_compiler.proofs.Standing.{slots_stand_once}
 use Rattle.graph_compiler.proofs.TaskSlots.{at_all_places, map-flat_map}
 use Rattle.graph_compiler.proofs.ValidDetails.{same_is, same_itself}
@@ -49,6 +50,10 @@ flat_map-same-all f g [] same = refl
 flat_map-same-all {X} {A} f g (x ∷ xs) same =
     ap (λ (first : List A). first ++ flat_map f xs) (same 0 x (omega arith))
     ∙ ap (λ (rest : List A). g x ++ rest) (flat_map-same-all f g xs (All-tail (λ y. f y ≡ g y) x xs same))
+
+-- the old slots of a list
+abbrev olds_of : Problem → List Task → List Slot
+olds_of p tasks = filter (is_read p tasks) (old_variables p ++ old_numbers p)
 
 module _ (p : Problem) (form : IsProblemInForm p) (accepted : IsAccepted p) (list : ℕ) (of_two : list < 2) where
   abbrev tasks : List Task
@@ -93,6 +98,26 @@ module _ (p : Problem) (form : IsProblemInForm p) (accepted : IsAccepted p) (lis
               let short = slice_get_within (written_by tasks d) k found.1 found.2 in
               let here : place ≡ first + k = slots_stand_once p form accepted list of_two place (first + k) x there (stands k found.1 found.2 ∙ ap Some (sym same)) in
               ap (has (counted first n)) here ∙ has-counted first n k short
+
+  module _ (place : ℕ) (d : Detail) (at : slice_get (details_of p tasks) place ≡ Some d) where
+    -- where what the detailed task writes begins
+    abbrev first_written : ℕ
+    first_written = length (olds_of p tasks) + sum_by (λ e. length (written_by tasks e)) (take place (details_of p tasks))
+
+    stands : (k : ℕ) (s : Slot) → slice_get (written_by tasks d) k ≡ Some s → StandsAt p tasks (first_written + k) s
+    stands k s there =
+        get_right (olds_of p tasks) (flat_map (written_by tasks) (details_of p tasks)) (first_written + k)
+        (sum_by (λ e. length (written_by tasks e)) (take place (details_of p tasks)) + k) (omega arith)
+        ∙ get-joined (written_by tasks) (details_of p tasks) place k d s at there
+
+    pub written_in_order : StandInOrder p tasks (places_written d) (written_by tasks d)
+    written_in_order = subst (λ (places : List ℕ). StandInOrder p tasks places (written_by tasks d)) (in_row d first_written stands) (record {
+      many = length-counted first_written (length (written_by tasks d));
+      each = λ k found s here there.
+          let short = slice_get_within (written_by tasks d) k s there in
+          let same : found ≡ first_written + k = same_Some found (first_written + k) (sym here ∙ get-counted first_written (length (written_by tasks d)) k short) in
+          subst (λ (n : ℕ). StandsAt p tasks n s) (sym same) (stands k s there);
+    })
 
   -- and so do the detailed tasks of a run, each of which writes so many
   in_rows : (ds : List Detail) (first count : ℕ) → All (λ d. length (written_by tasks d) ≡ count) ds

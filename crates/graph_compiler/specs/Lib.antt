@@ -9,3 +9,4 @@ pub mod Searched
 pub mod Sources
 pub mod Reading
 pub mod Laws
+pub mod Slots

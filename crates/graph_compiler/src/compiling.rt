@@ -3,15 +3,16 @@ ghost use Rattle.std.specs.Prelude.{◌≡◌, IfOk};
 ghost use Rattle.problem_types.specs.Form.{IsProblemInForm};
 ghost use Rattle.task_check.specs.Bounds.{IsBounded};
 ghost use Rattle.task_check.specs.First.{IsAccepted};
-ghost use Rattle.graph_compiler.specs.Kinds.{list_number, tasks_in};
 ghost use Rattle.graph_types.specs.Linked.{IsLinkable, linked};
+ghost use Rattle.graph_compiler.specs.Kinds.{list_number, tasks_in};
+ghost use Rattle.graph_compiler.specs.Places.{AreOldSlots};
 ghost use Rattle.graph_compiler.specs.Plan.{plan_of, unlinked};
 
 use crate::details::detailed_tasks;
 use crate::kept::kept_slots;
 use crate::layout::layouts;
 use crate::old_reads::old_reads;
-use crate::old_slots::old_slots;
+use crate::old_slots::{OldSlots, old_slots};
 use crate::plan::{ListKind, Plan, StepKind};
 use crate::reads::all_reads;
 use crate::writes::all_writes;
@@ -40,6 +41,17 @@ fn tasks_in(p: &Problem, list: ListKind) -> &[Task]
         ListKind::Init => p.init.as_slice(),
         ListKind::Timestep => p.timestep.as_slice(),
     }
+}
+
+/// The slots of the step before that the tasks of a list read.
+fn slots_before(alloc: Global, p: &Problem, list: ListKind) -> Result<OldSlots, NoMemory>
+    requires form { IsProblemInForm p.now }
+    requires accepted { IsAccepted p.now }
+    requires limits { IsBounded p.now }
+    ensures { IfOk result (λ old. AreOldSlots p.now (tasks_in p.now list) old) }
+{
+    let read = old_reads(alloc, p, list_number(list))?;
+    old_slots(alloc, read)
 }
 
 /// The graph of these reads, writes and kept slots.
@@ -76,8 +88,7 @@ fn plan_of(alloc: Global, p: &Problem, tasks: &[Task], kind: StepKind) -> Result
     ensures { IfOk result (λ plan. plan ≡ plan_of p.now kind) }
 {
     let details = detailed_tasks(alloc, p, tasks)?;
-    let read = old_reads(alloc, p, list_number(kind.list))?;
-    let before = old_slots(alloc, read)?;
+    let before = slots_before(alloc, p, kind.list)?;
     let old = before.slots.len() as u32;
     let layouts = layouts(alloc, p, tasks, old)?;
     let reads = all_reads(alloc, p, tasks, layouts.as_slice(), &before)?;

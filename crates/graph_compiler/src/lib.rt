@@ -20,5 +20,8 @@ mod written;
 
 pub use compiling::compile;
 pub use kinds::kind_of;
-pub use laws::{plans_are_counted, plans_are_valid};
+pub use laws::{
+    details_are_of_lists, plans_are_counted, plans_are_valid, slots_are_of_lists, slots_stand_once,
+    writes_stand_in_order,
+};
 pub use plan::{Detail, ListKind, Plan, Slot, SlotKind, StepKind};

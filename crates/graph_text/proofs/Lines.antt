@@ -6,6 +6,7 @@ use Rattle.std.proofs.lemmas.List.{append_assoc, get_or-map, length-append, leng
 use Rattle.std.proofs.lemmas.List.FromFn.{get_or-enumerate_from, length-enumerate_from}
 use Rattle.std.proofs.lemmas.Option.{get_or_from_slice_get, slice_get-get_or, slice_get_within}
 use Rattle.std.proofs.lemmas.Result.{on_ok_weaker}
+use Rattle.uts_geom.specs.Counting.{get_left, get_right}
 use Rattle.problem_types.specs.declared.problem.Problem.{Problem}
 use Rattle.graph_compiler.specs.declared.plan.ListKind.{ListKind}
 use Rattle.graph_compiler.specs.declared.plan.Plan.{Plan}
@@ -29,19 +30,6 @@ numbered_at {A} {B} of items n x here =
     ∙ ap (λ (item : ℕ × A). of item.0 item.1) (get_or-enumerate_from 0 items n numbered_x below)
     ∙ ap (λ (k : ℕ). of k (get_or items n x)) (zero-add n)
     ∙ ap (of n) (get_or_from_slice_get items n x x here))
-
--- ---- what stands in joined lists
-
-get_left : {A : Type 0} (xs ys : List A) (n : ℕ) → n < length xs → slice_get (xs ++ ys) n ≡ slice_get xs n
-get_left [] ys n below = absurd (omega arith)
-get_left (x ∷ xs) ys zero below = refl
-get_left (x ∷ xs) ys (suc n) below = get_left xs ys n (omega arith)
-
-get_right : {A : Type 0} (xs ys : List A) (n : ℕ) → slice_get (xs ++ ys) (length xs + n) ≡ slice_get ys n
-get_right [] ys n = ap (slice_get ys) (zero-add n)
-get_right (x ∷ xs) ys n =
-    let next : suc (length xs) + n ≡ suc (length xs + n) = omega arith in
-    ap (slice_get (x ∷ (xs ++ ys))) next ∙ get_right xs ys n
 
 -- ---- the lines of a plan
 
@@ -67,13 +55,12 @@ module _ (p : Problem) (list : ListKind) (plan : Plan) where
 
   pub at_slot : (n : ℕ) → n < length plan.slots → slice_get (plan_lines p list plan) (suc n) ≡ slice_get slot_lines n
   unfolding plan_lines
-  at_slot n below = get_left slot_lines task_lines n (let within : n < length slot_lines = omega (arith, length-numbered (slot_line p plan.graph) plan.slots) in within)
+  at_slot n below = get_left slot_lines task_lines n (omega (arith, length-numbered (slot_line p plan.graph) plan.slots))
 
   pub at_task : (n : ℕ) → slice_get (plan_lines p list plan) (suc (length plan.slots + n)) ≡ slice_get task_lines n
   unfolding plan_lines
   at_task n =
-      let size : length plan.slots + n ≡ length slot_lines + n = omega (arith, length-numbered (slot_line p plan.graph) plan.slots) in
-      ap (slice_get (slot_lines ++ task_lines)) size ∙ get_right slot_lines task_lines n
+      get_right slot_lines task_lines (length plan.slots + n) n (omega (arith, length-numbered (slot_line p plan.graph) plan.slots))
 
 -- ---- lines put behind others
 

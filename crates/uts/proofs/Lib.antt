@@ -4,4 +4,3 @@ pub mod Outcomes
 pub mod Statuses
 pub mod Told
 pub mod Parts
-pub mod Written

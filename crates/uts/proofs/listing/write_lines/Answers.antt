@@ -4,7 +4,7 @@ use Rattle.std.proofs.lemmas.List.{take_all, take_more}
 use Rattle.std.proofs.lemmas.Option.{slice_get-get_or}
 use Rattle.std.proofs.lemmas.Result.{err_from_is_err_and}
 use Rattle.dump_text.specs.Writing.{Writes}
-use Rattle.uts.proofs.Written.{writes_next, writes_stopped}
+use Rattle.dump_text.specs.Written.{writes_next, writes_stopped}
 use Rattle.uts.proofs.Parts.{lines_split}
 use Rattle.uts.proofs.listing.write_lines.Goals as goal
 

@@ -1,6 +1,6 @@
 use Rattle.std.proofs.Common.{◌∙◌, Err, ap, refl}
 use Rattle.std.proofs.lemmas.Result.{err_from_is_err_and}
-use Rattle.uts.proofs.Written.{then_writes, writes_less}
+use Rattle.dump_text.specs.Written.{then_writes, writes_less}
 use Rattle.uts.proofs.listing.write_plans.Goals as goal
 
 pub returns-in_err-write_list : goal.returns-in_err-write_list
