@@ -1,7 +1,6 @@
 pub mod RowTexts
 pub mod Noted
 pub mod Seen
-pub mod Written
 pub mod Shown
 pub mod FieldRows
 pub mod Near

@@ -1,5 +1,5 @@
 -- The index space of a level within the limits of the grid has near bounds.
-use Rattle.std.proofs.Common.{◌≡◌, ◌<◌, ◌≤◌, ◌≤ℤ◌, ℕ, ℤ, pos, negsuc, Bool, true, false, List, [], ◌∷◌, All, map, subst, arith}
+use Rattle.std.proofs.Common.{◌≡◌, ◌<◌, ◌≤◌, ℕ, pos, Bool, true, false, List, [], ◌∷◌, All, map, subst, arith}
 use Rattle.std.specs.Prelude.{slice_index}
 use Rattle.std.proofs.lemmas.Int.{ints}
 use Rattle.uts_geom.specs.Spans.{IsNearNumber, IsNearSpan}
@@ -8,8 +8,7 @@ use Rattle.uts_geom.specs.declared.centring.Axis.TheVariants.{X, Y, Z}
 use Rattle.uts_geom.specs.declared.centring.Centring.{Centring}
 use Rattle.uts_geom.specs.declared.span.Span.{Span}
 use Rattle.problem_types.specs.declared.problem.BoxLine.{BoxLine}
-use Rattle.problem_types.specs.declared.problem.Level.{Level}
-use Rattle.problem_types.specs.Levels.{HasNearBounds, spaces_on}
+use Rattle.problem_types.specs.Levels.{HasNearBounds}
 use Rattle.problem_types.specs.Regions.{end_of, space_of}
 
 near_end : (point : Bool) (n : ℕ) → n ≤ 4096 → IsNearNumber (end_of point n)

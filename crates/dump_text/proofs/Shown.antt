@@ -1,5 +1,5 @@
 -- Calls that show parts of a dump in turn.
-use Rattle.std.proofs.Common.{◌≡◌, ◌∙◌, ◌<◌, ◌+◌, ◌-◌, ℕ, zero, suc, ℤ, List, [], ◌∷◌, ◌++◌, Option, Result, Ok, Err, ap, sym, arith, add-one, zero-add, append_assoc, append-nil, subst, refl}
+use Rattle.std.proofs.Common.{◌≡◌, ◌∙◌, ◌<◌, ◌+◌, ℕ, ℤ, List, [], ◌∷◌, ◌++◌, Option, Result, Ok, Err, ap, sym, append-nil, subst, refl}
 use Rattle.std.specs.List.{flat_map}
 use Rattle.std.proofs.lemmas.Grind.{flat_map-append}
 use Rattle.uts_io.specs.Streams.{NoneChangeNothing, PiecesJoin}
@@ -8,11 +8,11 @@ use Rattle.probes.specs.declared.row.Row.{Row}
 use Rattle.uts_model.specs.Dump.{Shown}
 use Rattle.dump_text.specs.declared.fault.RunFault.{RunFault}
 use Rattle.dump_text.specs.declared.fault.RunFault.TheVariants.{NoMemory}
+use Rattle.dump_text.specs.Counted.{counted-more, counted_split}
 use Rattle.dump_text.specs.Supplies.{shown_by}
 use Rattle.dump_text.specs.Writing.{Writes}
+use Rattle.dump_text.specs.Written.{none_written, nothing_written, then_writes, writes_alike, writes_less}
 use Rattle.dump_text.specs.Showing.{Scene, Shows, shown_in}
-use Rattle.dump_text.proofs.Counted.{counted-more, counted_split}
-use Rattle.dump_text.proofs.Written.{writes_less, writes_alike, nothing_written, none_written, then_writes}
 use Rattle.dump_text.proofs.Seen.{then_sees, sees_less, sees_alike, sees_none, sees_nothing}
 
 -- a call after one that showed all of its part

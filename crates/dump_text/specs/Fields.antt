@@ -1,5 +1,5 @@
 -- The fields of a kept name, their rows and their text.
-use Rattle.std.specs.Prelude.{ℕ, ℤ, ◌<◌, List, [], ◌∷◌, length, map, if◌then◌else◌}
+use Rattle.std.specs.Prelude.{ℕ, ℤ, ◌<◌, List, [], length, map, if◌then◌else◌}
 use Rattle.std.specs.List.{flat_map}
 use Rattle.uts_geom.specs.Spans.{counted}
 use Rattle.problem_types.specs.Lists.{task_list, computes, centring_of}

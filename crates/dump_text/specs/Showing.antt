@@ -1,5 +1,5 @@
 -- What a call that shows a part of a dump did: to its sink, to the probes and to the supplier.
-use Rattle.std.specs.Prelude.{◌≡◌, ℕ, ℤ, List, [], ◌++◌, Option, Result, OnOk, map, codes}
+use Rattle.std.specs.Prelude.{◌≡◌, ℕ, ℤ, List, ◌++◌, Option, Result, OnOk, map, codes}
 use Rattle.std.specs.List.{AllZip}
 use Rattle.probes.specs.declared.row.Row.{Row}
 use Rattle.probes.specs.Watching.{Meaning, after_rows}

@@ -1,5 +1,5 @@
 -- What a supplier of rows and numbers has to have, and what the dump shows of it.
-use Rattle.std.specs.Prelude.{◌≡◌, ℕ, ℤ, pos, List, [], ◌++◌, Option, IsSome, All, Any, IsTrue, IsFalse}
+use Rattle.std.specs.Prelude.{◌≡◌, ℕ, ℤ, pos, List, [], ◌++◌, Option, IsSome, All, IsTrue, IsFalse}
 use Rattle.std.specs.Option.{unwrap_or, is_some}
 use Rattle.uts_geom.specs.Spans.{rows_of}
 use Rattle.problem_types.specs.Lists.{variable_named}

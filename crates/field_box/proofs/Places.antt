@@ -1,5 +1,5 @@
 -- Where the indexes of a span stand.
-use Rattle.std.proofs.Common.{◌≡◌, ◌≢◌, ◌∙◌, ◌≤◌, ◌<◌, ◌+◌, ◌-◌, inl, inr, ℕ, zero, suc, ℤ, pos, ◌+ℤ◌, List, [], ◌∷◌, ◌++◌, length, map, get_or, true, Option, Some, refl, ap, sym, arith}
+use Rattle.std.proofs.Common.{◌≡◌, ◌≢◌, ◌∙◌, ◌<◌, ◌+◌, ◌-◌, inl, inr, ℕ, zero, suc, ℤ, pos, ◌+ℤ◌, List, [], ◌∷◌, ◌++◌, length, get_or, true, Option, Some, refl, ap, sym, arith}
 use Rattle.std.specs.Prelude.{◌&&◌, ◌↔◌, IsTrue, AllPairs, Contains, slice_get, slice_index_or, int_lt, position}
 use Rattle.std.specs.Bool.{Decides}
 use Rattle.std.specs.Int.{int_gap}
@@ -14,9 +14,10 @@ use Rattle.std.proofs.lemmas.List.Sums.{position_or_len_is}
 use Rattle.std.proofs.lemmas.Option.{same_Some, slice_get-map, slice_get_within, get_or_from_slice_get, slice_get-get_or}
 use Rattle.uts_geom.specs.declared.index.Index.{Index}
 use Rattle.uts_geom.specs.declared.span.Span.{Span}
-use Rattle.uts_geom.specs.Spans.{index, counted, from_to, is_inside, row_indexes, indexes_of, width_of}
-use Rattle.uts_geom.specs.Counting.{get_left, get_right, length-counted, get-counted}
-use Rattle.field_box.specs.Fields.{NumberedSpan, is_same_index, number_at}
+use Rattle.uts_geom.specs.Spans.{index, from_to, is_inside, row_indexes, indexes_of, width_of}
+use Rattle.uts_geom.specs.Counting.{get_left, get_right}
+use Rattle.field_box.specs.Fields.{is_same_index, number_at}
+use Rattle.field_box.specs.ByPlace.{length-from_to, get-from_to}
 
 by_coordinates : (i j : Index) → i.x ≡ j.x → i.y ≡ j.y → i.z ≡ j.z → i ≡ j
 by_coordinates i j x y z = ap (λ n. index n i.y i.z) x ∙ ap (λ n. index j.x n i.z) y ∙ ap (λ n. index j.x j.y n) z
@@ -55,15 +56,6 @@ pub place_inside : (s : Span) → ((i : Index) → Contains (indexes_of s) i ↔
 place_inside s holds i inside =
     let there = (holds i).1 inside in
     (there.0, slice_get-get_or (indexes_of s) there.0 i there.1 ∙ ap (λ (j : Index). Some j) there.2)
-
-pub length-from_to : (low high : ℤ) → length (from_to low high) ≡ int_gap low high
-length-from_to low high = length-map (counted 0 (int_gap low high)) (λ k. low +ℤ pos k) ∙ length-counted 0 (int_gap low high)
-
-pub get-from_to : (low high : ℤ) (k : ℕ) → k < int_gap low high → slice_get (from_to low high) k ≡ Some (low +ℤ pos k)
-get-from_to low high k below =
-    slice_get-map (λ (j : ℕ). low +ℤ pos j) (counted 0 (int_gap low high)) k
-    ∙ ap (option_map (λ (j : ℕ). low +ℤ pos j)) (get-counted 0 (int_gap low high) k below)
-    ∙ ap (λ (j : ℕ). Some (low +ℤ pos j)) (let e : 0 + k ≡ k = omega arith in e)
 
 pub length-row : (s : Span) (y z : ℤ) → length (row_indexes s y z) ≡ width_of s
 length-row s y z = length-map (from_to s.lo.x s.hi.x) (λ x. index x y z) ∙ length-from_to s.lo.x s.hi.x

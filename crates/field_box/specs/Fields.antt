@@ -1,5 +1,5 @@
 -- Fields: a number for each index of a span.
-use Rattle.std.specs.Prelude.{◌≡◌, ℕ, ◌<◌, ℤ, pos, ◌+ℤ◌, Bool, ◌&&◌, List, IsTrue, length, map, position, slice_index_or}
+use Rattle.std.specs.Prelude.{◌≡◌, ℕ, ◌<◌, ℤ, pos, ◌+ℤ◌, Bool, ◌&&◌, List, IsTrue, map, position, slice_index_or}
 use Rattle.std.specs.Option.{option_map_or}
 use Rattle.std.specs.Ordering.{int_eq}
 use Rattle.uts_geom.specs.Spans.{index, counted, indexes_of, is_between, is_inside}

@@ -1,3 +1,4 @@
 pub mod Fields
 pub mod ByPlace
 pub mod Near
+pub mod WalkedRows

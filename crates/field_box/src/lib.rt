@@ -8,4 +8,5 @@ mod tests;
 mod value;
 
 pub use field::{Field, NoMemory};
+pub use parts::width;
 pub use value::Value;

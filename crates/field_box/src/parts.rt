@@ -9,8 +9,8 @@ ghost use Rattle.uts_geom.specs.declared.index.Index.{Index};
 use crate::Field;
 use uts_geom::{Index, Span, meet, rows};
 
-/// How many numbers a row of the span has.
-pub(crate) fn width(s: Span) -> usize
+/// How many indexes a row of the span has.
+pub fn width(s: Span) -> usize
     requires { IsNearSpan s }
     ensures { result ≡ width_of s }
 {

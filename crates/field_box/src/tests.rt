@@ -1,6 +1,5 @@
 //! Fields with their numbers counted by hand.
-use crate::parts::width;
-use crate::{Field, NoMemory, Value};
+use crate::{Field, NoMemory, Value, width};
 use uts_geom::{Index, Span, contains, volume};
 
 /// Three by two indexes, and four by two beside and below them: two are common.

@@ -1,5 +1,5 @@
 -- The text of a step depends on the rows and the numbers that are shown alone.
-use Rattle.std.proofs.Common.{◌≡◌, ◌∙◌, ℕ, ℤ, pos, ◌<◌, List, [], ◌∷◌, ◌++◌, map, length, All, Bool, true, false, Option, Some, None, IsSome, IsTrue, IsFalse, ap, sym, refl, arith, slice_get, slice_index_or, inl, inr}
+use Rattle.std.proofs.Common.{◌≡◌, ℕ, ℤ, pos, List, [], ◌++◌, length, Bool, true, false, Option, Some, None, IsSome, ap, refl, slice_get, slice_index_or}
 use Rattle.std.specs.Prelude.{if◌then◌else◌}
 use Rattle.std.specs.List.{flat_map}
 use Rattle.std.specs.Option.{option_map_or, is_some, unwrap_or}
@@ -9,8 +9,9 @@ use Rattle.problem_types.specs.Lists.{variable_named}
 use Rattle.problem_types.specs.declared.problem.Problem.{Problem}
 use Rattle.problem_types.specs.declared.problem.Keep.{Keep}
 use Rattle.probes.specs.declared.row.Row.{Row}
-use Rattle.uts_model.specs.Dump.{Shown, Field, shown_fields, field_rows, field_line, name_text, field_text, row_line, number_line, keep_text, step_line, step_text}
-use Rattle.plain_engine.proofs.Lists.{map-alike, flat_map-alike, flat_map-same}
+use Rattle.uts_model.specs.Dump.{Shown, Field, shown_fields, field_line, name_text, field_text, row_line, number_line, keep_text, step_line, step_text}
+use Rattle.kernel_sweeps.specs.Lists.{flat_map-same}
+use Rattle.plain_engine.proofs.Lists.{map-alike, flat_map-alike}
 use Rattle.dump_text.specs.Supplies.{shown_by, HasField, HasKept, HasAllKept}
 
 -- a supplier whose rows and numbers are those that are to be shown, wherever it has some

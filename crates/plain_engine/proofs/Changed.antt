@@ -1,12 +1,12 @@
 -- What a task leaves is what stood, with the fields and the reductions that it gives.
-use Rattle.std.proofs.Common.{◌≡◌, ◌∙◌, ℕ, ℤ, pos, List, [], ◌∷◌, ◌++◌, map, Bool, true, false, ◌&&◌, ◌||◌, ◌==◌, cond, eqb, Option, Some, None, ap, sym, refl, arith, inl, inr, fold}
+use Rattle.std.proofs.Common.{◌≡◌, ◌∙◌, ℕ, ℤ, List, [], ◌∷◌, ◌++◌, map, Bool, true, false, ◌&&◌, ◌||◌, ◌==◌, cond, Option, Some, ap, sym, refl, inl, inr, fold}
 use Rattle.std.proofs.Math.Path.{fun_ext}
 use Rattle.std.specs.Prelude.{if◌then◌else◌}
 use Rattle.std.specs.List.{flat_map, list_any, find}
 use Rattle.std.specs.Option.{option_map_or}
 use Rattle.std.proofs.lemmas.Bool.{eqb-true, and_parts, cases_eq, eq-eqb, ne_eqb}
 use Rattle.uts_geom.specs.declared.index.Index.{Index}
-use Rattle.problem_types.specs.Lists.{runs_on, field_write, reduction_write, is_of_field, is_reduces, centring_of, outside_of, fold_of}
+use Rattle.problem_types.specs.Lists.{runs_on, reduction_write, is_of_field, is_reduces, centring_of, outside_of, fold_of}
 use Rattle.problem_types.specs.Regions.{is_in_space}
 use Rattle.problem_types.specs.declared.problem.Problem.{Problem}
 use Rattle.problem_types.specs.declared.problem.Task.{Task}
@@ -14,7 +14,6 @@ use Rattle.problem_types.specs.declared.problem.Write.{Write}
 use Rattle.kernel_ast.specs.Value.{value_of}
 use Rattle.reductions.specs.Folding.{all_combined}
 use Rattle.uts_model.specs.WholeField.{State, environment, contributions, after_task, after_tasks, unset}
-use Rattle.whole_fields.specs.Stored.{with_field, with_reduction}
 use Rattle.plain_engine.specs.Changes.{FieldChange, IsBlankOutside, with_fields, with_numbers, field_change, line_changes, field_changes, number_changes}
 use Rattle.plain_engine.specs.declared.written.WrittenNumber.{WrittenNumber}
 

@@ -1,6 +1,6 @@
 -- Lists that are taken apart from the end.
-use Rattle.std.proofs.Common.{◌≡◌, ◌∙◌, ◌≤◌, ◌<◌, ◌+◌, ℕ, zero, suc, List, [], ◌∷◌, ◌++◌, map, length, take, drop, get_or, ap, sym, refl, arith, length-take}
-use Rattle.std.proofs.lemmas.List.{take_all, take_more, drop_more, drop_all, drop-drop, drop-map, length_push, same_from_push}
+use Rattle.std.proofs.Common.{◌≡◌, ◌∙◌, ◌<◌, ◌+◌, ℕ, List, [], ◌∷◌, ◌++◌, map, length, take, drop, get_or, ap, sym, refl, arith, length-take}
+use Rattle.std.proofs.lemmas.List.{take_all, take_more, drop_more, drop-drop, drop-map, length_push, same_from_push}
 use native.Mathlib.Nat.{le_refl}
 
 module _ {X : Type 0} (xs : List X) where

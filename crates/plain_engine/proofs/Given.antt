@@ -1,6 +1,5 @@
 -- What a task gives belongs to the problem.
 use Rattle.std.proofs.Common.{◌≡◌, ◌<◌, ◌≤◌, ◌+◌, ℕ, arith, zero, suc, List, [], ◌∷◌, map, length, All, Bool, true, false, if◌then◌else◌, slice_index_or}
-use Rattle.std.specs.List.{flat_map}
 use Rattle.std.proofs.lemmas.List.{length-map}
 use Rattle.std.proofs.lemmas.List.Elements.{All-nil, All-cons, All-map, All-weaker}
 use Rattle.std.proofs.Math.Nat.{mul-le-mul}
@@ -17,7 +16,8 @@ use Rattle.problem_types.specs.declared.problem.Write.{Write}
 use Rattle.task_check.specs.Bounds.{IsBounded, IsBoundedTask, AreBoundedTasks}
 use Rattle.uts_model.specs.WholeField.{State}
 use Rattle.plain_engine.specs.Changes.{FieldChange, IsFieldOf, written_of, field_change, line_changes, field_changes, line_number, number_changes}
-use Rattle.plain_engine.specs.Runnable.{IsRunnable, IsRunnableLine, IsAtMostDeep, AreAtMostDeep}
+use Rattle.kernel_sweeps.specs.Room.{AreAtMostDeep, IsAtMostDeep}
+use Rattle.plain_engine.specs.Runnable.{IsRunnable, IsRunnableLine}
 use Rattle.plain_engine.specs.declared.written.WrittenNumber.{WrittenNumber}
 use Rattle.plain_engine.proofs.Lists.{All-flat_map}
 

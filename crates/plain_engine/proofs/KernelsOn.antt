@@ -7,7 +7,7 @@ use Rattle.uts_model.specs.WholeField.{State, number_read, store_of}
 use Rattle.whole_fields.specs.Stored.{state_of}
 use Rattle.plain_engine.specs.Moments.{AreReadsAt, kernel_at}
 use Rattle.plain_engine.specs.Reading.{numbers_at, reductions_at}
-use Rattle.plain_engine.specs.Sweeps.{number_on}
+use Rattle.kernel_sweeps.specs.Sweeps.{number_on}
 use Rattle.plain_engine.specs.declared.moment.Moment.{Moment}
 use Rattle.whole_fields.specs.declared.stores.Stores.{Stores}
 

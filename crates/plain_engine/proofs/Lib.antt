@@ -1,10 +1,8 @@
 pub mod Lists
 pub mod Changed
-pub mod Rows
 pub mod Alike
 pub mod Steps
 pub mod SmallSpans
 pub mod KernelsOn
 pub mod FromTheEnd
 pub mod Given
-pub mod Writing

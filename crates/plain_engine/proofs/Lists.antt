@@ -1,38 +1,11 @@
 -- Lists for each item of a list, joined.
-use Rattle.std.proofs.Common.{◌≡◌, ◌∙◌, ℕ, zero, suc, ◌+◌, ◌<◌, List, [], ◌∷◌, ◌++◌, map, length, All, Bool, true, false, ◌||◌, Contains, ap, sym, refl, arith, append_assoc, append-nil, fold, take, get_or, slice_index_or}
+use Rattle.std.proofs.Common.{◌≡◌, ◌∙◌, ℕ, zero, suc, ◌+◌, ◌<◌, List, [], ◌∷◌, ◌++◌, map, length, All, Bool, true, Contains, ap, sym, refl, arith, take, get_or}
 use Rattle.std.specs.List.{flat_map, list_any}
 use Rattle.std.proofs.lemmas.Bool.{or_left, or_right}
-use Rattle.std.proofs.lemmas.List.{map-append, take_more}
-use Rattle.std.proofs.lemmas.List.Concat.{flat_map-append}
+use Rattle.std.proofs.lemmas.List.{take_more}
 use Rattle.std.proofs.lemmas.List.Elements.{All-head, All-tail, All-nil, All-append, All-push, All-weaker}
-use Rattle.std.proofs.lemmas.List.Sums.{fold-append}
 use Rattle.uts_geom.specs.Spans.{counted}
-
-pub flat_map-flat_map : {X Y A : Type 0} (g : Y → List A) (h : X → List Y) (xs : List X) →
-    flat_map g (flat_map h xs) ≡ flat_map (λ x. flat_map g (h x)) xs
-flat_map-flat_map g h [] = refl
-flat_map-flat_map g h (x ∷ xs) =
-    flat_map-append g (h x) (flat_map h xs) ∙ ap (λ rest. flat_map g (h x) ++ rest) (flat_map-flat_map g h xs)
-
-pub map-flat_map : {X Y A : Type 0} (f : Y → A) (h : X → List Y) (xs : List X) →
-    map f (flat_map h xs) ≡ flat_map (λ x. map f (h x)) xs
-map-flat_map f h [] = refl
-map-flat_map f h (x ∷ xs) =
-    map-append f (h x) (flat_map h xs) ∙ ap (λ rest. map f (h x) ++ rest) (map-flat_map f h xs)
-
-pub flat_map-none : {X A : Type 0} (f : X → List A) → ((x : X) → f x ≡ []) → (xs : List X) → flat_map f xs ≡ []
-flat_map-none f none [] = refl
-flat_map-none f none (x ∷ xs) = ap (λ first. first ++ flat_map f xs) (none x) ∙ flat_map-none f none xs
-
--- one item more
-pub flat_map-more : {X A : Type 0} (f : X → List A) (xs : List X) (x : X) → flat_map f (xs ++ x ∷ []) ≡ flat_map f xs ++ f x
-flat_map-more f xs x = flat_map-append f xs (x ∷ []) ∙ ap (λ last. flat_map f xs ++ last) (append-nil (f x))
-
--- two functions that agree
-pub flat_map-same : {X A : Type 0} (f g : X → List A) → ((x : X) → f x ≡ g x) → (xs : List X) → flat_map f xs ≡ flat_map g xs
-flat_map-same f g same [] = refl
-flat_map-same f g same (x ∷ xs) =
-    ap (λ first. first ++ flat_map f xs) (same x) ∙ ap (λ rest. g x ++ rest) (flat_map-same f g same xs)
+use Rattle.kernel_sweeps.specs.Lists.{flat_map-more}
 
 -- two functions that agree where a fact holds, which it does of each item
 module _ {X A : Type 0} (P : X → Type 0) where
@@ -46,13 +19,6 @@ module _ {X A : Type 0} (P : X → Type 0) where
   flat_map-alike f g same (x ∷ xs) each =
       ap (λ first. first ++ flat_map f xs) (same x (All-head P x xs each))
       ∙ ap (λ rest. g x ++ rest) (flat_map-alike f g same xs (All-tail P x xs each))
-
--- one list more to combine
-pub fold-flat_map-more : {X A B : Type 0} (f : B → A → B) (start total next : B) (g : X → List A) (xs : List X) (x : X) →
-    total ≡ fold f start (flat_map g xs) → next ≡ fold f total (g x) → next ≡ fold f start (flat_map g (xs ++ x ∷ []))
-fold-flat_map-more f start total next g xs x before is =
-    is ∙ ap (λ t. fold f t (g x)) before ∙ sym (fold-append f start (flat_map g xs) (g x))
-    ∙ ap (fold f start) (sym (flat_map-more g xs x))
 
 -- one item more of a list, by its place
 pub flat_map-take : {X A : Type 0} (f : X → List A) (before next : List A) (xs : List X) (i : ℕ) (x : X) → i < length xs → x ≡ get_or xs i x →

@@ -1,5 +1,5 @@
 -- The index spaces of levels within the limits of the grid.
-use Rattle.std.proofs.Common.{◌≡◌, ◌∙◌, ◌≤◌, ◌<◌, ◌+◌, ℕ, ℤ, pos, List, [], ◌∷◌, map, Bool, true, false, Option, Some, None, ap, subst, sym, refl, arith, append-nil, All}
+use Rattle.std.proofs.Common.{◌≡◌, ◌∙◌, ◌≤◌, ◌+◌, ℕ, pos, List, [], ◌∷◌, map, Bool, true, false, Option, Some, None, ap, subst, sym, refl, arith, append-nil, All}
 use Rattle.std.specs.Prelude.{slice_get, slice_index}
 use Rattle.std.specs.Int.{int_gap}
 use Rattle.std.specs.List.{flat_map}

@@ -1,14 +1,8 @@
 -- What stands at the end of a step, and its text.
-use Rattle.std.proofs.Common.{◌≡◌, ◌∙◌, ℕ, zero, suc, ℤ, pos, ◌+◌, List, [], ◌∷◌, ◌++◌, length, Bool, true, false, Option, Some, None, IsSome, ap, sym, refl, arith, add-one}
-use Rattle.std.specs.Prelude.{if◌then◌else◌}
-use Rattle.std.specs.List.{flat_map}
-use Rattle.std.specs.Option.{unwrap_or}
-use Rattle.std.proofs.lemmas.List.{take_all, append-nil}
-use native.Mathlib.Nat.{le_refl}
-use Rattle.uts_geom.specs.Spans.{counted}
-use Rattle.problem_types.specs.Lists.{task_list, is_dumped}
+use Rattle.std.proofs.Common.{◌≡◌, ◌∙◌, ℕ, zero, suc, ◌+◌, ap, sym, refl, add-one}
+use Rattle.problem_types.specs.Lists.{task_list}
 use Rattle.problem_types.specs.declared.problem.Problem.{Problem}
-use Rattle.uts_model.specs.WholeField.{State, nothing, after_tasks, end_of_step, before_step, state_at, task_count}
+use Rattle.uts_model.specs.WholeField.{State, after_tasks, end_of_step, before_step}
 use Rattle.uts_model.specs.Dump.{shown_at, step_text}
 use Rattle.uts_model.specs.Ends.{state_at_end}
 use Rattle.dump_text.specs.Supplies.{shown_by, HasAllKept}

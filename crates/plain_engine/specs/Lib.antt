@@ -1,5 +1,4 @@
 pub mod Changes
-pub mod Sweeps
 pub mod Held
 pub mod Reading
 pub mod Moments

@@ -1,19 +1,13 @@
 -- Tasks that can be run.
-use Rattle.std.specs.Prelude.{◌≡◌, ℕ, ◌+◌, ◌<◌, ◌≤◌, [], ◌∷◌, All, length}
-use Rattle.uts_geom.specs.Spans.{width_of}
+use Rattle.std.specs.Prelude.{◌≡◌, ℕ, ◌<◌, ◌≤◌, [], ◌∷◌, All, length}
 use Rattle.uts_geom.specs.declared.centring.Centring.{Centring}
 use Rattle.uts_geom.specs.declared.span.Span.{Span}
-use Rattle.kernel_ast.specs.Size.{depth_of}
 use Rattle.kernel_ast.specs.declared.expression.Expr.{Expr}
-use Rattle.kernel_rows.specs.Scratch.{scratch_of}
+use Rattle.kernel_sweeps.specs.Room.{room_on}
 use Rattle.problem_types.specs.Regions.{spaces_of}
 use Rattle.problem_types.specs.declared.problem.Problem.{Problem}
 use Rattle.problem_types.specs.declared.problem.Task.{Task}
 use Rattle.problem_types.specs.declared.problem.Write.{Write}
-
--- the places of scratch for a kernel on a span: for a row of its numbers, and for its parts along the row
-abbrev pub room_on : Expr → Span → ℕ
-room_on kernel s = width_of s + scratch_of (width_of s) (depth_of kernel)
 
 -- so many places suffice for a kernel on each index space of the problem
 abbrev pub SufficesFor : Problem → (places : ℕ) → Expr → Type 0
@@ -29,10 +23,3 @@ pub record IsRunnable (p : Problem) (places : ℕ) (t : Task) : Type 0 where
   pub levels : All (λ level. level < length p.levels) t.levels
   pub materials : All (λ material. material < p.materials.value) t.materials
   pub lines : All (IsRunnableLine p places) t.writes
-
--- the kernel of a line, and those of a task, are at most so deep
-abbrev pub IsAtMostDeep : ℕ → Write → Type 0
-IsAtMostDeep depth w = depth_of w.expr ≤ depth
-
-abbrev pub AreAtMostDeep : ℕ → Task → Type 0
-AreAtMostDeep depth t = All (IsAtMostDeep depth) t.writes

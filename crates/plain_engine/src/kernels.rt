@@ -2,13 +2,13 @@
 ghost use Rattle.std.specs.Prelude.{◌≡◌, ◌≤◌, map, fold, length, IfOk};
 ghost use Rattle.uts_geom.specs.Spans.{IsNearSpan, indexes_of};
 ghost use Rattle.reductions.specs.Folding.{combined};
+ghost use Rattle.kernel_sweeps.specs.Room.{room_on};
 ghost use Rattle.plain_engine.specs.Moments.{AreReadsAt, kernel_at};
-ghost use Rattle.plain_engine.specs.Runnable.{room_on};
 
 use crate::moment::Moment;
-use crate::sweep::Sweep;
-use crate::sweeping::{field_numbers, fold_numbers};
+use crate::sweeping::field_numbers;
 use kernel_ast::Expr;
+use kernel_sweeps::{Sweep, fold_numbers};
 use problem_types::Fold;
 use sqlite_items::Items;
 use std::alloc::AllocError;

@@ -14,7 +14,6 @@ mod showing;
 mod shown;
 mod spaces;
 mod step;
-mod sweep;
 mod sweeping;
 mod tasks;
 mod written;

@@ -3,14 +3,13 @@ ghost use Rattle.std.specs.Prelude.{◌≡◌, ◌<◌, ◌≤◌, ◌∷◌, []
 ghost use Rattle.uts_geom.specs.Spans.{width_of};
 ghost use Rattle.uts_geom.specs.declared.centring.Centring.{Centring};
 ghost use Rattle.uts_geom.specs.declared.span.Span.{Span};
-ghost use Rattle.problem_types.specs.Form.{AreTasksInForm, IsWriteInForm};
 ghost use Rattle.problem_types.specs.Lists.{task_list};
 ghost use Rattle.problem_types.specs.Regions.{spaces_of};
-ghost use Rattle.plain_engine.specs.Runnable.{IsRunnable, AreAtMostDeep, IsAtMostDeep};
+ghost use Rattle.plain_engine.specs.Runnable.{IsRunnable};
 
-use crate::spaces::{space_on, width};
-use kernel_ast::depth;
-use problem_types::{Centring, Task, Write};
+use crate::spaces::space_on;
+use kernel_sweeps::{deepest_kernel, width};
+use problem_types::Centring;
 use task_check::{Checked, bounds};
 
 /// The length of the longest rows of a level: those of its nodes.
@@ -33,32 +32,6 @@ fn longest_row(c: &Checked) -> usize
         longest = row_length(c, level).max(longest);
     }
     longest
-}
-
-/// The depth of the deepest kernel of lines that write.
-fn deepest_line(writes: &[Write], names: usize) -> u32
-    requires { All (IsWriteInForm names) writes.now }
-    ensures deep { All (IsAtMostDeep result) writes.now }
-    ensures shallow { result ≤ 64 }
-{
-    let mut deepest = 0;
-    for write in writes {
-        deepest = depth(&write.expr).max(deepest);
-    }
-    deepest
-}
-
-/// The depth of the deepest kernel of tasks.
-fn deepest_kernel(tasks: &[Task], names: usize) -> u32
-    requires { AreTasksInForm names tasks.now }
-    ensures deep { All (AreAtMostDeep result) tasks.now }
-    ensures shallow { result ≤ 64 }
-{
-    let mut deepest = 0;
-    for task in tasks {
-        deepest = deepest_line(task.writes.as_slice(), names).max(deepest);
-    }
-    deepest
 }
 
 /// How many places of scratch suffice for each kernel of a problem: for a row of its numbers, and for its parts.

@@ -26,12 +26,3 @@ pub(crate) fn space_on(c: &Checked, level: u32, centring: Centring) -> Span
     bounds(c);
     index_space(level_at(c.problem(), level), centring)
 }
-
-/// How many indexes a row of a span has.
-pub(crate) fn width(span: Span) -> usize
-    requires { IsNearSpan span }
-    ensures { result ≡ width_of span }
-{
-    let (low, high) = (span.lo.x, span.hi.x);
-    if low < high { (high - low) as usize } else { 0 }
-}

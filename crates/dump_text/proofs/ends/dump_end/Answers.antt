@@ -1,7 +1,7 @@
 use Rattle.std.proofs.Common.{◌∙◌, Err, ap, refl}
 use Rattle.std.proofs.lemmas.Result.{err_from_is_err_and}
 use Rattle.uts_model.specs.Dump.{end_text}
-use Rattle.dump_text.proofs.Written.{then_writes, writes_less}
+use Rattle.dump_text.specs.Written.{then_writes, writes_less}
 use Rattle.dump_text.proofs.ends.dump_end.Goals as goal
 
 pub returns-in_err-write_probe_lines : goal.returns-in_err-write_probe_lines

@@ -6,7 +6,7 @@ use Rattle.std.proofs.lemmas.Result.{err_from_is_err_and}
 use Rattle.dump_text.specs.Showing.{probe_line}
 use Rattle.dump_text.specs.Writing.{Writes}
 use Rattle.dump_text.specs.declared.fault.RunFault.{RunFault}
-use Rattle.dump_text.proofs.Written.{none_written, writes_next, writes_stopped}
+use Rattle.dump_text.specs.Written.{none_written, writes_next, writes_stopped}
 use Rattle.dump_text.proofs.ends.write_probe_lines.Goals as goal
 
 -- the texts of the items before a place, and of the one there

@@ -1,4 +1,4 @@
-use Rattle.std.proofs.Common.{◌≡◌, ◌∙◌, true, sym, ap}
+use Rattle.std.proofs.Common.{◌≡◌, true, sym}
 use Rattle.problem_types.specs.Lists.{task_list, computes}
 use Rattle.dump_text.proofs.FieldRows.{field_there}
 use Rattle.dump_text.proofs.Near.{near_where_one}

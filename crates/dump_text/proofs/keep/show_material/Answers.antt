@@ -1,4 +1,4 @@
-use Rattle.std.proofs.Common.{◌≡◌, ◌∙◌, ℕ, ℤ, List, Option, Err, All, length, refl, ap, sym, subst, arith}
+use Rattle.std.proofs.Common.{◌∙◌, ℕ, ℤ, List, Option, Err, All, length, refl, ap, sym, subst, arith}
 use Rattle.std.proofs.lemmas.Result.{err_from_is_err_and}
 use Rattle.probes.specs.declared.row.Row.{Row}
 use Rattle.uts_model.specs.Dump.{Shown}

@@ -1,4 +1,4 @@
-use Rattle.std.proofs.Common.{◌≡◌, map, Ok}
+use Rattle.std.proofs.Common.{map, Ok}
 use Rattle.std.specs.List.{flat_map}
 use Rattle.uts_geom.specs.Spans.{counted}
 use Rattle.dump_text.specs.Fields.{level_fields, rows_of_fields, text_of_fields}

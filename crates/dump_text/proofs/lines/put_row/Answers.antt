@@ -1,4 +1,4 @@
-use Rattle.std.proofs.Common.{sym, ap, ◌∙◌, ◌≡◌, ◌<◌, ℕ, ℤ, pos, length, length-take, take, get_or, arith, rules, w64, FitsSigned}
+use Rattle.std.proofs.Common.{sym, ap, ◌∙◌, ◌<◌, pos, length, length-take, take, get_or, arith, rules, w64, FitsSigned}
 use Rattle.std.proofs.lemmas.Int.{to_z-of_z}
 use Rattle.std.proofs.lemmas.List.{take_more}
 use Rattle.uts_model.specs.Dump.{row_text}

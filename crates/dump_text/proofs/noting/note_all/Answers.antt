@@ -1,6 +1,6 @@
-use Rattle.std.proofs.Common.{arith, length, length-set, ap, ◌∙◌, ◌≡◌, ◌<◌, ◌∷◌, []}
+use Rattle.std.proofs.Common.{arith, length, length-set, ap, ◌∷◌, []}
 use Rattle.std.proofs.lemmas.Result.{err_from_is_err_and}
-use Rattle.dump_text.proofs.Noted.{length-noted, one_noted, sees_all, sees_some, whole}
+use Rattle.dump_text.proofs.Noted.{one_noted, sees_all, sees_some, whole}
 use Rattle.dump_text.proofs.noting.note_all.Goals as goal
 
 pub returns-in_err-note_one : goal.returns-in_err-note_one

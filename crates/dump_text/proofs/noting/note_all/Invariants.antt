@@ -1,4 +1,4 @@
-use Rattle.std.proofs.Common.{◌≡◌, ◌∷◌, [], map, length}
+use Rattle.std.proofs.Common.{◌≡◌, ◌∷◌, [], map}
 use Rattle.dump_text.proofs.Noted.{first_noted}
 use Rattle.dump_text.proofs.noting.note_all.Given as goal
 

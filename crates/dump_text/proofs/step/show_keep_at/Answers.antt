@@ -1,4 +1,4 @@
-use Rattle.std.proofs.Common.{◌≡◌, ◌<◌, ℕ, All, IsTrue, IsFalse, length, sym, subst}
+use Rattle.std.proofs.Common.{◌<◌, All, IsTrue, IsFalse, length, sym, subst}
 use Rattle.std.specs.Prelude.{IsSome}
 use Rattle.std.specs.Option.{is_some}
 use Rattle.problem_types.specs.Lists.{variable_named}

@@ -1,4 +1,4 @@
-use Rattle.std.proofs.Common.{◌≡◌, ◌∙◌, List, ℤ, [], ◌∷◌, map, ap, sym}
+use Rattle.std.proofs.Common.{◌∙◌, List, ℤ, map, ap, sym}
 use Rattle.problem_types.specs.Lists.{centring_of}
 use Rattle.problem_types.specs.Regions.{spaces_of}
 use Rattle.problem_types.specs.declared.problem.Problem.{Problem}

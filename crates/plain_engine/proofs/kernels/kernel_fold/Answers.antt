@@ -1,4 +1,4 @@
-use Rattle.std.proofs.Common.{◌≡◌, ◌∙◌, ℤ, map, fold, ap, FitsSigned, w64, to_z, of_z, rules}
+use Rattle.std.proofs.Common.{◌∙◌, ℤ, map, fold, ap, FitsSigned, w64, to_z, of_z, rules}
 use Rattle.std.proofs.lemmas.Int.{to_z-of_z}
 use Rattle.uts_geom.specs.Spans.{indexes_of}
 use Rattle.uts_geom.specs.declared.index.Index.{Index}

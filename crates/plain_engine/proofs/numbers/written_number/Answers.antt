@@ -1,4 +1,4 @@
-use Rattle.std.proofs.Common.{◌≡◌, ◌∙◌, ℤ, ap, w64, FitsSigned, rules}
+use Rattle.std.proofs.Common.{◌∙◌, ℤ, ap, w64, FitsSigned, rules}
 use Rattle.std.specs.List.{flat_map}
 use Rattle.std.proofs.lemmas.Int.{to_z-of_z}
 use Rattle.problem_types.specs.Lists.{fold_of}

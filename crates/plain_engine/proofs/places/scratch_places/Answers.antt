@@ -1,11 +1,12 @@
-use Rattle.std.proofs.Common.{◌≡◌, ◌∙◌, ◌≤◌, ◌+◌, ℕ, List, ap, sym, subst, arith}
+use Rattle.std.proofs.Common.{◌∙◌, ◌≤◌, ◌+◌, ℕ, List, ap, sym, subst, arith}
 use Rattle.std.specs.Prelude.{All}
 use Rattle.std.proofs.lemmas.List.Elements.{All-weaker, All-same}
 use Rattle.problem_types.specs.Lists.{task_list}
 use Rattle.problem_types.specs.declared.problem.Problem.{Problem}
 use Rattle.problem_types.specs.declared.problem.Task.{Task}
 use Rattle.problem_types.specs.declared.problem.Write.{Write}
-use Rattle.plain_engine.specs.Runnable.{IsRunnable, AreAtMostDeep, IsAtMostDeep}
+use Rattle.kernel_sweeps.specs.Room.{AreAtMostDeep, IsAtMostDeep}
+use Rattle.plain_engine.specs.Runnable.{IsRunnable}
 use Rattle.plain_engine.proofs.Given.{tasks_runnable}
 use Rattle.plain_engine.proofs.places.scratch_places.Goals as goal
 

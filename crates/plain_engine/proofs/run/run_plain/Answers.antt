@@ -1,8 +1,8 @@
-use Rattle.std.proofs.Common.{◌≡◌, ◌∙◌, ◌++◌, ℕ, List, [], Err, ap, refl}
+use Rattle.std.proofs.Common.{◌∙◌, ◌++◌, ℕ, List, [], Err, ap, refl}
 use Rattle.std.proofs.lemmas.Result.{err_from_is_err_and}
 use Rattle.problem_types.specs.declared.problem.Problem.{Problem}
 use Rattle.uts_model.specs.Dump.{begin_text, by_dumped_steps, end_text, dump_bytes, shown_at, step_text}
-use Rattle.plain_engine.proofs.Writing.{failed_before, then_writes}
+use Rattle.dump_text.specs.Written.{then_writes, writes_less}
 use Rattle.plain_engine.proofs.run.run_plain.Goals as goal
 
 abbrev text_of_steps : Problem → List ℕ
@@ -13,7 +13,7 @@ unfolding dump_bytes
 returns-in_err-begin g c =
     let failed = err_from_is_err_and c.from_residual.result c.from_residual.ensures.1 in
     record {
-      written = failed_before g.O.Sink.after _ _ _ _ begin_text (text_of_steps c.args.c.now ++ end_text []) c.in_err-begin.field-0.0 _ _
+      written = writes_less g.O.Sink.after _ _ _ _ c.in_err-begin.field-0.0 _ _ begin_text (text_of_steps c.args.c.now ++ end_text [])
           refl (failed.1 ∙ ap Err failed.2) c.in_err-begin.ensures;
     }
 
@@ -22,9 +22,9 @@ unfolding dump_bytes
 returns-in_err-run_steps g c =
     let failed = err_from_is_err_and c.from_residual-in_err-run_steps.result c.from_residual-in_err-run_steps.ensures.1 in
     record {
-      written = then_writes g.O.Sink.after g.met.O.Sink.after_both _ _ _ _ _ _ begin_text (text_of_steps c.args.c.now ++ end_text []) _
-          c.in_ok-begin.ensures.all c.in_ok-begin.ensures.never_falls
-          (failed_before g.O.Sink.after _ _ _ _ (text_of_steps c.args.c.now) (end_text []) c.in_err-run_steps.field-0.0 _ _
+      written = then_writes g.O.Sink.after g.met.O.Sink.after_both _ _ _ _ _ _ tt _ begin_text (text_of_steps c.args.c.now ++ end_text [])
+          c.in_ok-begin.ensures
+          (writes_less g.O.Sink.after _ _ _ _ c.in_err-run_steps.field-0.0 _ _ (text_of_steps c.args.c.now) (end_text [])
           refl (failed.1 ∙ ap Err failed.2) c.in_err-run_steps.ensures);
     }
 
@@ -32,8 +32,8 @@ pub returns : goal.returns
 unfolding dump_bytes
 returns g c =
     record {
-      written = then_writes g.O.Sink.after g.met.O.Sink.after_both _ _ _ _ _ _ begin_text (text_of_steps c.args.c.now ++ end_text []) _
-          c.in_ok-begin.ensures.all c.in_ok-begin.ensures.never_falls
-          (then_writes g.O.Sink.after g.met.O.Sink.after_both _ _ _ _ _ _ (text_of_steps c.args.c.now) (end_text []) _
-          c.in_ok-run_steps.ensures.all c.in_ok-run_steps.ensures.never_falls c.end.ensures);
+      written = then_writes g.O.Sink.after g.met.O.Sink.after_both _ _ _ _ _ _ tt _ begin_text (text_of_steps c.args.c.now ++ end_text [])
+          c.in_ok-begin.ensures
+          (then_writes g.O.Sink.after g.met.O.Sink.after_both _ _ _ _ _ _ tt _ (text_of_steps c.args.c.now) (end_text [])
+          c.in_ok-run_steps.ensures c.end.ensures);
     }

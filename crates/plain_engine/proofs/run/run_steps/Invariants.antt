@@ -1,10 +1,10 @@
-use Rattle.std.proofs.Common.{◌≡◌, ◌≤◌, [], if◌then◌else◌}
+use Rattle.std.proofs.Common.{◌≡◌, [], Ok, if◌then◌else◌}
 use Rattle.std.specs.List.{flat_map}
 use Rattle.uts_geom.specs.Spans.{counted}
-use Rattle.uts_io.specs.Streams.{grown}
 use Rattle.problem_types.specs.Lists.{is_dumped}
 use Rattle.uts_model.specs.Dump.{shown_at, step_text}
 use Rattle.uts_model.specs.WholeField.{before_step}
+use Rattle.dump_text.specs.Writing.{Writes}
 use Rattle.whole_fields.specs.Stored.{IsWarehouseOf, state_of}
 use Rattle.plain_engine.proofs.run.run_steps.Given as goal
 
@@ -13,7 +13,6 @@ abbrev pub invariant-loop-number : goal.invariant-loop-number
 invariant-loop-number g l = record {
   warehouse : IsWarehouseOf l.c l.old;
   state : state_of l.c l.old ≡ before_step l.c l.number;
-  never_falls : g.O.Sink.faults l.fn.sink ≤ g.O.Sink.faults l.sink;
-  written : g.O.Sink.taken l.sink ≡ grown g.O.Sink.after (g.O.Sink.taken l.fn.sink)
-      (flat_map (λ step. if is_dumped l.c step then step_text l.c (shown_at l.c step) step else []) (counted 0 l.number));
+  written : Writes g.O.Sink.after (g.O.Sink.taken l.fn.sink) (g.O.Sink.taken l.sink) (g.O.Sink.faults l.fn.sink) (g.O.Sink.faults l.sink)
+      (Ok (tt {0})) (flat_map (λ step. if is_dumped l.c step then step_text l.c (shown_at l.c step) step else []) (counted 0 l.number));
 }

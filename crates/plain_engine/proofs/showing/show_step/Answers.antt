@@ -1,4 +1,4 @@
-use Rattle.std.proofs.Common.{◌≡◌, ◌∙◌, ℕ, List, [], Bool, true, ap, sym, subst}
+use Rattle.std.proofs.Common.{◌≡◌, ◌∙◌, ℕ, List, [], true, ap, sym, subst}
 use Rattle.std.proofs.lemmas.Bool.{cond-true}
 use Rattle.problem_types.specs.Lists.{is_dumped}
 use Rattle.problem_types.specs.declared.problem.Problem.{Problem}

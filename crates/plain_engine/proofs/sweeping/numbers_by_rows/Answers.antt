@@ -1,7 +1,7 @@
-use Rattle.std.proofs.Common.{◌≡◌, ◌∙◌, ap}
+use Rattle.std.proofs.Common.{◌∙◌, ap}
 use Rattle.uts_geom.specs.Rows.{rows_left}
-use Rattle.plain_engine.specs.Sweeps.{number_at}
-use Rattle.plain_engine.proofs.Rows.{walked}
+use Rattle.kernel_sweeps.specs.Sweeps.{number_at}
+use Rattle.kernel_sweeps.specs.JoinedRows.{walked}
 use Rattle.plain_engine.proofs.sweeping.numbers_by_rows.Goals as goal
 
 pub returns : goal.returns

@@ -1,7 +1,7 @@
 use Rattle.std.proofs.Common.{◌≡◌, ℤ, map, length}
 use Rattle.std.specs.List.{flat_map}
 use Rattle.uts_geom.specs.Spans.{row_indexes, width_of}
-use Rattle.plain_engine.specs.Sweeps.{number_at}
+use Rattle.kernel_sweeps.specs.Sweeps.{number_at}
 use Rattle.plain_engine.proofs.sweeping.numbers_by_rows.Given as goal
 
 -- the numbers are those of the rows so far

@@ -1,8 +1,7 @@
-use Rattle.std.proofs.Common.{◌≡◌, ◌∙◌, List, IfOk, ap, sym, subst}
+use Rattle.std.proofs.Common.{◌≡◌, ◌∙◌, IfOk, ap, sym, subst}
 use Rattle.std.proofs.lemmas.List.Elements.{All-same}
 use Rattle.problem_types.specs.Lists.{task_list}
 use Rattle.problem_types.specs.declared.problem.Problem.{Problem}
-use Rattle.problem_types.specs.declared.problem.Task.{Task}
 use Rattle.uts_model.specs.WholeField.{State, after_tasks}
 use Rattle.whole_fields.specs.Stored.{state_of}
 use Rattle.whole_fields.specs.declared.warehouse.Warehouse.{Warehouse}

@@ -1,8 +1,8 @@
-use Rattle.std.proofs.Common.{◌≡◌, ◌∙◌, ◌<◌, List, length, ap}
+use Rattle.std.proofs.Common.{◌∙◌, ◌<◌, length, ap}
 use Rattle.std.proofs.lemmas.List.Elements.{All-same}
 use Rattle.uts_model.specs.WholeField.{State}
 use Rattle.whole_fields.specs.Stored.{state_of}
-use Rattle.plain_engine.specs.Changes.{IsFieldOf, with_fields, with_numbers, field_changes, number_changes}
+use Rattle.plain_engine.specs.Changes.{IsFieldOf, with_fields, with_numbers, field_changes}
 use Rattle.plain_engine.specs.declared.written.WrittenNumber.{WrittenNumber}
 use Rattle.plain_engine.proofs.Changed.{after_task-is}
 use Rattle.plain_engine.proofs.Given.{fields_belong, numbers_known}

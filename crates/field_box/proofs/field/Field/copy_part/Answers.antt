@@ -1,12 +1,12 @@
 use Rattle.std.proofs.Common.{◌≡◌, ◌∙◌, ℤ, List, [], ◌∷◌, ◌++◌, ap, sym, subst, append_assoc, append-nil}
 use Rattle.std.specs.Prelude.{◌&&◌, IsTrue}
-use Rattle.std.proofs.lemmas.Bool.{and_parts, and_from}
 use Rattle.uts_geom.specs.declared.index.Index.{Index}
 use Rattle.uts_geom.specs.declared.span.Span.{Span}
 use Rattle.uts_geom.specs.Rows.{rows_left}
-use Rattle.uts_geom.specs.Spans.{is_inside, meet_of, rows_of, IsNearSpan}
+use Rattle.uts_geom.specs.Spans.{is_inside, rows_of, IsNearSpan}
 use Rattle.field_box.specs.Near.{meet_near}
-use Rattle.field_box.proofs.PartRows.{IsCopied, none_copied, next_copied, all_copied, row_walked}
+use Rattle.field_box.specs.WalkedRows.{row_walked}
+use Rattle.field_box.proofs.PartRows.{IsCopied, none_copied, next_copied, all_copied}
 use Rattle.field_box.proofs.field.Field.copy_part.Goals as goal
 use Rattle.field_box.proofs.field.Field.copy_part.Goals.{After-meet-part}
 

@@ -1,4 +1,4 @@
-use Rattle.std.proofs.Common.{◌≡◌, ◌∙◌, ℕ, ℤ, List, pos, length, map, ap, sym, subst, rules, w64, FitsSigned}
+use Rattle.std.proofs.Common.{◌≡◌, ◌∙◌, ℕ, pos, length, map, ap, sym, subst, rules, w64, FitsSigned}
 use Rattle.std.specs.Prelude.{slice_index_or, if◌then◌else◌}
 use Rattle.std.specs.Int.{int_gap}
 use Rattle.std.proofs.lemmas.Bool.{and_parts}

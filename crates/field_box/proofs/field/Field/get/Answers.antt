@@ -1,4 +1,4 @@
-use Rattle.std.proofs.Common.{◌≡◌, ◌∙◌, ℤ, List, pos, length, ap, sym, rules, arith, w64, FitsSigned}
+use Rattle.std.proofs.Common.{◌∙◌, ℤ, List, pos, length, ap, sym, rules, arith, w64, FitsSigned}
 use Rattle.std.specs.Prelude.{slice_index_or}
 use Rattle.std.proofs.lemmas.Int.{to_z-of_z}
 use Rattle.std.proofs.lemmas.Option.{slice_get_within}

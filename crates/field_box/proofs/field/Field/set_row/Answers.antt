@@ -1,4 +1,4 @@
-use Rattle.std.proofs.Common.{◌≡◌, ◌∙◌, ℤ, pos, length, ap, subst, rules, w64, FitsSigned}
+use Rattle.std.proofs.Common.{◌≡◌, ◌∙◌, pos, length, ap, subst, rules, w64, FitsSigned}
 use Rattle.std.specs.Prelude.{slice_index_or, if◌then◌else◌}
 use Rattle.std.specs.Int.{int_gap}
 use Rattle.std.proofs.lemmas.Int.{to_z-of_z}

@@ -1,4 +1,4 @@
-use Rattle.std.proofs.Common.{◌≡◌, ◌∙◌, ◌<◌, ℤ, List, length, map, take, drop, ap, sym, subst, arith}
+use Rattle.std.proofs.Common.{◌∙◌, ◌<◌, ℤ, List, length, map, take, drop, ap, sym, subst, arith}
 use Rattle.field_box.specs.Fields.{NumberedSpan, HoldsAlong, along, number_at}
 use Rattle.field_box.proofs.Stretches.{first_inside, stretch_fits, stretch_read}
 use Rattle.field_box.proofs.field.Field.stretch.Goals as goal

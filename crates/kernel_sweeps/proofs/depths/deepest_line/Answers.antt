@@ -1,9 +1,9 @@
-use Rattle.std.proofs.Common.{◌≤◌, take, sym, subst, arith}
+use Rattle.std.proofs.Common.{take, sym, subst, arith}
 use Rattle.std.proofs.lemmas.List.{take_all}
 use Rattle.std.proofs.lemmas.List.Elements.{All-more, All-weaker, All-same}
 use Rattle.problem_types.specs.Form.{IsWriteInForm}
-use Rattle.plain_engine.specs.Runnable.{IsAtMostDeep}
-use Rattle.plain_engine.proofs.places.deepest_line.Goals as goal
+use Rattle.kernel_sweeps.specs.Room.{IsAtMostDeep}
+use Rattle.kernel_sweeps.proofs.depths.deepest_line.Goals as goal
 
 pub loop-write-preserved : goal.loop-write-preserved
 loop-write-preserved c =

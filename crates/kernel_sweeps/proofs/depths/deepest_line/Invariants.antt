@@ -1,7 +1,7 @@
 use Rattle.std.proofs.Common.{◌≤◌, take}
 use Rattle.std.specs.Prelude.{All}
-use Rattle.plain_engine.specs.Runnable.{IsAtMostDeep}
-use Rattle.plain_engine.proofs.places.deepest_line.Given as goal
+use Rattle.kernel_sweeps.specs.Room.{IsAtMostDeep}
+use Rattle.kernel_sweeps.proofs.depths.deepest_line.Given as goal
 
 -- no kernel so far is deeper
 abbrev pub invariant-loop-write : goal.invariant-loop-write

@@ -1,7 +1,7 @@
 use Rattle.std.proofs.Common.{◌≤◌, take}
 use Rattle.std.specs.Prelude.{All}
-use Rattle.plain_engine.specs.Runnable.{AreAtMostDeep}
-use Rattle.plain_engine.proofs.places.deepest_kernel.Given as goal
+use Rattle.kernel_sweeps.specs.Room.{AreAtMostDeep}
+use Rattle.kernel_sweeps.proofs.depths.deepest_kernel.Given as goal
 
 -- no kernel so far is deeper
 abbrev pub invariant-loop-task : goal.invariant-loop-task

@@ -1,5 +1,5 @@
 -- The rows of a span, joined, are its indexes.
-use Rattle.std.proofs.Common.{◌≡◌, ◌∙◌, ℕ, ℤ, pos, negsuc, List, [], ◌∷◌, ◌++◌, ◌+ℤ◌, map, Bool, true, false, Option, None, inl, inr, ap, sym, refl, arith, append-nil, int_lt, fold}
+use Rattle.std.proofs.Common.{◌≡◌, ◌∙◌, ℤ, pos, List, [], ◌∷◌, ◌++◌, ◌+ℤ◌, map, false, Option, None, inl, inr, ap, sym, refl, arith, int_lt}
 use Rattle.std.specs.Int.{int_gap}
 use Rattle.std.specs.List.{flat_map}
 use Rattle.std.proofs.lemmas.Int.{ints}
@@ -12,7 +12,7 @@ use Rattle.uts_geom.specs.declared.row_walk.Rows.{Rows as Walk}
 use Rattle.uts_geom.specs.declared.index.Index.{Index}
 use Rattle.uts_geom.specs.declared.span.Span.{Span}
 use Rattle.uts_geom.specs.Spans.{index, from_to, counted, row_indexes, indexes_of, rows_of, all_rows}
-use Rattle.plain_engine.proofs.Lists.{flat_map-flat_map, map-flat_map, flat_map-none, flat_map-same}
+use Rattle.kernel_sweeps.specs.Lists.{flat_map-flat_map, map-flat_map, flat_map-none, flat_map-same}
 
 -- a list for each pair
 flat_map-pairs : {X Y A : Type 0} (f : Y × X → List A) (x : X) (ys : List Y) →

@@ -6,7 +6,7 @@ use Rattle.kernel_ast.specs.declared.expression.Expr.{Expr}
 use Rattle.kernel_ast.specs.declared.expression.Store.{Store}
 use Rattle.kernel_ast.specs.declared.expression.Read.{Read}
 use Rattle.kernel_rows.specs.declared.row.KernelRow.{KernelRow}
-use Rattle.plain_engine.specs.declared.sweep.Sweep.{Sweep}
+use Rattle.kernel_sweeps.specs.declared.sweep.Sweep.{Sweep}
 
 -- the row of a sweep at y and z
 abbrev pub row_on : Sweep → (y z : ℤ) → KernelRow

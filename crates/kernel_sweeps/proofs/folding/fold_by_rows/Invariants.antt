@@ -2,8 +2,8 @@ use Rattle.std.proofs.Common.{◌≡◌, ℤ, map, length, fold}
 use Rattle.std.specs.List.{flat_map}
 use Rattle.uts_geom.specs.Spans.{row_indexes, width_of}
 use Rattle.reductions.specs.Folding.{combined}
-use Rattle.plain_engine.specs.Sweeps.{number_at}
-use Rattle.plain_engine.proofs.sweeping.fold_by_rows.Given as goal
+use Rattle.kernel_sweeps.specs.Sweeps.{number_at}
+use Rattle.kernel_sweeps.proofs.folding.fold_by_rows.Given as goal
 
 -- what is combined so far are the numbers of the rows so far
 abbrev pub invariant-loop-at : goal.invariant-loop-at

@@ -5,11 +5,11 @@ use uts_geom::Span;
 
 /// A kernel that runs at each index of a span, in one step, on one material and one level.
 #[derive(Clone, Copy)]
-pub(crate) struct Sweep<'a> {
-    pub(crate) kernel: &'a Expr,
-    pub(crate) step: u32,
-    pub(crate) material: u32,
-    pub(crate) level: u32,
-    pub(crate) span: Span,
-    ghost near: { IsNearSpan span },
+pub struct Sweep<'a> {
+    pub kernel: &'a Expr,
+    pub step: u32,
+    pub material: u32,
+    pub level: u32,
+    pub span: Span,
+    pub ghost near: { IsNearSpan span },
 }

@@ -1,9 +1,9 @@
--- Calls that write in turn.
-use Rattle.std.proofs.Common.{◌≡◌, ◌∙◌, ◌≤◌, ℕ, List, [], ◌++◌, Option, Result, Ok, Err, ap, sym, arith, append-nil, ◌∷◌}
+-- Calls that write to one sink, alone and in turn.
+use Rattle.std.proofs.Common.{◌≡◌, ◌∙◌, ◌≤◌, ℕ, List, [], ◌++◌, Option, Result, Ok, Err, ap, sym, subst, arith, append-nil, ◌∷◌}
 use Rattle.std.specs.List.{flat_map}
 use Rattle.std.proofs.lemmas.Grind.{flat_map-append}
 use Rattle.std.proofs.lemmas.Result.{on_ok_weaker}
-use Rattle.uts_io.specs.Streams.{Rose-earlier, grown, GrewByPrefix, NoneChangeNothing, PiecesJoin, grew_both, grown-nil, prefix_of_all, prefix_of_more, prefix_after, prefix_of_nothing}
+use Rattle.uts_io.specs.Streams.{Rose-earlier, grown, NoneChangeNothing, PiecesJoin, grew_both, grown-nil, prefix_of_all, prefix_of_more, prefix_after, prefix_of_nothing}
 use Rattle.dump_text.specs.Writing.{Writes}
 use Rattle.dump_text.specs.declared.fault.RunFault.{RunFault}
 use Rattle.dump_text.specs.declared.fault.RunFault.TheVariants.{SinkFault, NoMemory}
@@ -19,16 +19,6 @@ module _ (after : List ℕ → List ℕ → List ℕ) (old new : Option (List �
     never_falls = le;
   }
 
-  -- a call that wrote all, and failed afterwards for want of memory
-  pub written_before : {T : Type 0} (r : Result T RunFault) (text : List ℕ) → r ≡ Err NoMemory → new ≡ grown after old text → before ≤ now →
-      Writes after old new before now r text
-  written_before r text is grew le = record {
-    all = rw is tt;
-    prefix = prefix_of_all after old new text grew;
-    fault = λ h. cc;
-    never_falls = le;
-  }
-
   -- a failed call wrote a prefix of more bytes too, and its failure may be handed on
   pub writes_less : {T U : Type 0} (e : RunFault) (r : Result T RunFault) (r' : Result U RunFault) (text rest : List ℕ) →
       r ≡ Err e → r' ≡ Err e → Writes after old new before now r text → Writes after old new before now r' (text ++ rest)
@@ -39,14 +29,10 @@ module _ (after : List ℕ → List ℕ → List ℕ) (old new : Option (List �
     never_falls = w.never_falls;
   }
 
+  -- a failure that is handed on
   pub writes_alike : {T U : Type 0} (e : RunFault) (r : Result T RunFault) (r' : Result U RunFault) (text : List ℕ) →
       r ≡ Err e → r' ≡ Err e → Writes after old new before now r text → Writes after old new before now r' text
-  writes_alike e r r' text was is w = record {
-    all = rw is tt;
-    prefix = w.prefix;
-    fault = λ h. let same : e ≡ SinkFault = cc in w.fault (was ∙ ap Err same);
-    never_falls = w.never_falls;
-  }
+  writes_alike e r r' text was is w = subst (Writes after old new before now r') (append-nil text) (writes_less e r r' text [] was is w)
 
 -- a call that failed for want of memory before it wrote
 pub nothing_written : (after : List ℕ → List ℕ → List ℕ) (none : NoneChangeNothing after) (old : Option (List ℕ)) (count : ℕ)

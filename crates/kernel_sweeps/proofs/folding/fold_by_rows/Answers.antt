@@ -1,13 +1,13 @@
-use Rattle.std.proofs.Common.{◌≡◌, ◌∙◌, ℤ, map, ap, sym, w64, FitsSigned, rules, arith, fold}
+use Rattle.std.proofs.Common.{◌∙◌, ℤ, map, ap, w64, FitsSigned, rules, fold}
 use Rattle.std.specs.List.{flat_map}
 use Rattle.std.proofs.lemmas.Int.{to_z-of_z}
 use Rattle.uts_geom.specs.Rows.{rows_left}
 use Rattle.uts_geom.specs.Spans.{row_indexes}
 use Rattle.reductions.specs.Folding.{combined}
-use Rattle.plain_engine.specs.Sweeps.{number_at}
-use Rattle.plain_engine.proofs.Lists.{fold-flat_map-more}
-use Rattle.plain_engine.proofs.Rows.{walked}
-use Rattle.plain_engine.proofs.sweeping.fold_by_rows.Goals as goal
+use Rattle.kernel_sweeps.specs.Sweeps.{number_at}
+use Rattle.kernel_sweeps.proofs.Folds.{fold-flat_map-more}
+use Rattle.kernel_sweeps.specs.JoinedRows.{walked}
+use Rattle.kernel_sweeps.proofs.folding.fold_by_rows.Goals as goal
 
 pub loop-at-preserved : goal.loop-at-preserved
 loop-at-preserved g c =

@@ -1,0 +1,4 @@
+pub mod Lists
+pub mod JoinedRows
+pub mod Room
+pub mod Sweeps
