@@ -10,4 +10,4 @@ mod operations;
 mod witness;
 
 pub use task_check::Checked;
-pub use witness::at_index;
+pub use witness::{at_index, reduction_at_end};

@@ -140,7 +140,7 @@ fn over_children(r: &Read, place: &Place, f: Fold) -> i64
 
 /// The number of a reduction at a moment.
 #[cycle(numbers)]
-fn reduction(problem: &Problem, moment: Moment, name: u32) -> i64
+pub(crate) fn reduction(problem: &Problem, moment: Moment, name: u32) -> i64
     requires evaluable { IsEvaluable problem.now }
     requires moment { IsMoment problem.now moment }
     ensures { result ≡ (state_of problem.now moment).reduction name }

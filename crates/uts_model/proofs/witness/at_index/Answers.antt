@@ -17,7 +17,7 @@ returns c =
     let p = c.args.c.now in
     let fits : FitsSigned w64 c.field.result = search rules in
     let named = rw c.problem-problem.ensures.problem at c.variable_name.ensures in
-    let found = rw (c.task_list.ensures, c.problem-problem.ensures.problem) at c.field.ensures in
+    let found = rw (c.end_of.ensures, c.problem-problem.ensures.problem) at c.field.ensures in
     IfSome_then (slice_get p.vars c.args.var) named (λ v same.
     to_z-of_z w64 c.field.result fits ∙ found
     ∙ ap (λ (name : ℕ). (state_of p (InStep c.args.step (length (task_list p c.args.step)))).field name c.args.material c.args.level c.args.i) same)
