@@ -1,2 +1,3 @@
 pub mod Saturating
 pub mod Rows
+pub mod WholeRows

@@ -37,7 +37,7 @@ fn moved_along(n: i64, by: i64) -> i64
 }
 
 /// The index by an offset away, where the span holds it.
-fn moved_into(s: Span, i: Index, by: [i64; 3]) -> Option<Index>
+pub(crate) fn moved_into(s: Span, i: Index, by: [i64; 3]) -> Option<Index>
     requires { IsNearSpan s }
     ensures some { IfSome result (λ to. to ≡ moved i (offset_of by)) }
     ensures held { IfSome result (λ to. IsTrue (is_inside s to)) }

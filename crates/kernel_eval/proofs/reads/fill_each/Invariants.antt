@@ -1,7 +1,7 @@
 use Rattle.std.proofs.Common.{◌≡◌, ◌<◌, ℕ, pos, ◌+ℤ◌, get_or}
 use Rattle.uts_geom.specs.Spans.{index}
 use Rattle.kernel_eval.specs.Environments.{number_in_part}
-use Rattle.kernel_eval.proofs.reads.fill_from.Given as goal
+use Rattle.kernel_eval.proofs.reads.fill_each.Given as goal
 
 -- the indexes so far have their numbers
 abbrev pub invariant-loop-place : goal.invariant-loop-place

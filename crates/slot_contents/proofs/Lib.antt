@@ -1,0 +1,14 @@
+pub mod Listed
+pub mod Lines
+pub mod Unwritten
+pub mod Earlier
+pub mod Slots
+pub mod Holding
+pub mod Once
+pub mod Joined
+pub mod Combined
+pub mod NextTask
+pub mod Parts
+pub mod Owned
+pub mod Making
+pub mod Covering

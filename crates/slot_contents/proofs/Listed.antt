@@ -1,0 +1,128 @@
+-- What stands in lists: through filters and joins, in a part, and last of what passes a test.
+use Rattle.std.proofs.Common.{◌≡◌, ◌∙◌, ◌<◌, ◌+◌, ℕ, zero, suc, List, [], ◌∷◌, Bool, true, false, cond, Option, Some, None, map, take, drop, filter, inl, inr, ap, sym, refl, arith, subst}
+use Rattle.std.specs.Prelude.{slice_get, Contains, ◌||◌, find}
+use Rattle.std.specs.List.{flat_map, list_any}
+use Rattle.std.specs.Option.{is_some, option_map, option_map_or}
+use Rattle.std.proofs.lemmas.Bool.{false_from_ne_true, or_cases}
+use Rattle.std.proofs.lemmas.List.Elements.{Contains-append_left, Contains-append_right}
+use Rattle.std.proofs.lemmas.List.Folds.{Any-from_list_any, list_any_at}
+use Rattle.std.proofs.lemmas.Option.{get_or_from_slice_get, slice_get-get_or, slice_get-map, slice_get_within}
+use Rattle.uts_geom.specs.Spans.{counted}
+use Rattle.uts_geom.specs.Counting.{counted-at}
+
+-- a value in a list has a place
+pub place_in : {A : Type 0} (xs : List A) (x : A) → Contains xs x → (k : ℕ) × (slice_get xs k ≡ Some x)
+place_in xs x there = (there.0, slice_get-get_or xs there.0 x there.1 ∙ ap Some there.2)
+
+pub in_list : {A : Type 0} (xs : List A) (k : ℕ) (x : A) → slice_get xs k ≡ Some x → Contains xs x
+in_list xs k x at = (k, slice_get_within xs k x at, get_or_from_slice_get xs k x x at)
+
+pub in_counted : (n k : ℕ) → k < n → Contains (counted 0 n) k
+in_counted n k below = in_list (counted 0 n) k k (counted-at n k below)
+
+pub in_joined : {X A : Type 0} (g : X → List A) (xs : List X) (k : ℕ) (x : X) (a : A) → slice_get xs k ≡ Some x → Contains (g x) a → Contains (flat_map g xs) a
+in_joined g [] k x a at there = absurd cc
+in_joined {X} {A} g (y ∷ ys) zero x a at there =
+    let same : x ≡ y = cc in Contains-append_left (g y) (flat_map g ys) a (subst (λ (z : X). Contains (g z) a) same there)
+in_joined g (y ∷ ys) (suc k) x a at there = Contains-append_right (g y) (flat_map g ys) a (in_joined g ys k x a at there)
+
+-- what stands in the list of a value that stands in a list
+pub in_flat_map : {X A : Type 0} (g : X → List A) (xs : List X) (x : X) (a : A) → Contains xs x → Contains (g x) a → Contains (flat_map g xs) a
+in_flat_map g xs x a x_there there = let at = place_in xs x x_there in in_joined g xs at.0 x a at.1 there
+
+pub in_map : {X A : Type 0} (f : X → A) (xs : List X) (x : X) → Contains xs x → Contains (map f xs) (f x)
+in_map f xs x there = let at = place_in xs x there in in_list (map f xs) at.0 (f x) (slice_get-map f xs at.0 ∙ ap (option_map f) at.1)
+
+kept_at : {A : Type 0} (test : A → Bool) (xs : List A) (k : ℕ) (x : A) → slice_get xs k ≡ Some x → test x ≡ true → Contains (filter test xs) x
+kept_at test [] k x at passes = absurd cc
+kept_at {A} test (y ∷ ys) zero x at passes =
+    let same : y ≡ x = cc in
+    subst (λ (b : Bool). Contains (cond b (y ∷ filter test ys) (filter test ys)) x) (sym (ap test same ∙ passes)) (in_list (y ∷ filter test ys) 0 x (ap Some same))
+kept_at {A} test (y ∷ ys) (suc k) x at passes = by_test (test y) (kept_at test ys k x at passes)
+  where
+    by_test : (b : Bool) → Contains (filter test ys) x → Contains (cond b (y ∷ filter test ys) (filter test ys)) x
+    by_test true rest = Contains-append_right (y ∷ []) (filter test ys) x rest
+    by_test false rest = rest
+
+-- what passes stays in a filtered list
+pub in_filter : {A : Type 0} (test : A → Bool) (xs : List A) (x : A) → Contains xs x → test x ≡ true → Contains (filter test xs) x
+in_filter test xs x there passes = let at = place_in xs x there in kept_at test xs at.0 x at.1 passes
+
+-- ---- tests
+
+pub any_at : {A : Type 0} (test : A → Bool) (xs : List A) (k : ℕ) (x : A) → slice_get xs k ≡ Some x → test x ≡ true → list_any test xs ≡ true
+any_at test xs k x at passes = list_any_at test xs k x (slice_get_within xs k x at) (ap test (get_or_from_slice_get xs k x x at) ∙ passes)
+
+-- one that stands in the list passes
+pub any_in : {A : Type 0} (test : A → Bool) (xs : List A) (x : A) → Contains xs x → test x ≡ true → list_any test xs ≡ true
+any_in test xs x there passes = let at = place_in xs x there in any_at test xs at.0 x at.1 passes
+
+-- what passes a test at its place in a list
+pub record Passes {A : Type 0} (test : A → Bool) (xs : List A) : Type 0 where
+  pub place : ℕ
+  pub item : A
+  pub at : slice_get xs place ≡ Some item
+  pub passes : test item ≡ true
+
+pub passing : {A : Type 0} (test : A → Bool) (xs : List A) → list_any test xs ≡ true → Passes test xs
+passing test xs some =
+    let there = Any-from_list_any test xs some in
+    record { place = there.0; item = there.1; at = slice_get-get_or xs there.0 there.1 there.2 ∙ ap Some there.3; passes = there.4 }
+
+pub of_option : {A : Type 0} (test : A → Bool) (o : Option A) → option_map_or test o false ≡ true → (x : A) × (o ≡ Some x) × (test x ≡ true)
+of_option test None holds = absurd cc
+of_option test (Some x) holds = (x, refl, holds)
+
+-- something is found exactly where something passes
+pub is_some-find : {A : Type 0} (test : A → Bool) (xs : List A) → is_some (find test xs) ≡ list_any test xs
+is_some-find test [] = refl
+is_some-find {A} test (x ∷ xs) = by_test (test x) (is_some-find test xs)
+  where
+    by_test : (b : Bool) → is_some (find test xs) ≡ list_any test xs → is_some (cond b (Some x) (find test xs)) ≡ (b || list_any test xs)
+    by_test true rest = refl
+    by_test false rest = rest
+
+-- the only one that passes is found
+pub find_only : {A : Type 0} (test : A → Bool) (xs : List A) (k : ℕ) (x : A) → slice_get xs k ≡ Some x → test x ≡ true →
+    ((j : ℕ) (y : A) → slice_get xs j ≡ Some y → test y ≡ true → j ≡ k) → find test xs ≡ Some x
+find_only test [] k x at passes only = absurd cc
+find_only {A} test (y ∷ ys) zero x at passes only =
+    let same : y ≡ x = cc in
+    ap (λ (b : Bool). cond b (Some y) (find test ys)) (ap test same ∙ passes) ∙ at
+find_only {A} test (y ∷ ys) (suc k) x at passes only =
+    ap (λ (b : Bool). cond b (Some y) (find test ys)) (false_from_ne_true (test y) (λ yes. let first = only 0 y refl yes in omega (arith, first)))
+    ∙ find_only test ys k x at passes (λ j z z_at z_passes. let same = only (suc j) z z_at z_passes in omega (arith, same))
+
+-- ---- parts of lists
+
+pub of_take : {A : Type 0} (xs : List A) (n k : ℕ) (x : A) → slice_get (take n xs) k ≡ Some x → (k < n) × (slice_get xs k ≡ Some x)
+of_take xs zero k x at = absurd cc
+of_take [] (suc n) k x at = absurd cc
+of_take (y ∷ ys) (suc n) zero x at = (omega arith, at)
+of_take (y ∷ ys) (suc n) (suc k) x at = let rest = of_take ys n k x at in (omega (arith, rest.0), rest.1)
+
+pub get-drop : {A : Type 0} (xs : List A) (n k : ℕ) → slice_get (drop n xs) k ≡ slice_get xs (n + k)
+get-drop xs zero k = ap (slice_get xs) (let e : k ≡ 0 + k = omega arith in e)
+get-drop [] (suc n) k = refl
+get-drop (x ∷ xs) (suc n) k = get-drop xs n k ∙ ap (slice_get (x ∷ xs)) (let e : suc (n + k) ≡ suc n + k = omega arith in e)
+
+-- the last of a list that passes a test
+pub record IsLast {A : Type 0} (test : A → Bool) (xs : List A) : Type 0 where
+  pub found : Passes test xs
+  pub none_after : list_any test (drop (found.place + 1) xs) ≡ false
+
+pub last_of : {A : Type 0} (test : A → Bool) (xs : List A) → list_any test xs ≡ true → IsLast test xs
+last_of test [] some = absurd cc
+last_of {A} test (x ∷ xs) some = by_rest (list_any test xs) refl (last_of test xs)
+  where
+    here : list_any test xs ≡ false → test x ≡ true
+    here none = elim (or_cases (test x) (list_any test xs) some) [ inl first ↦ first | inr later ↦ absurd cc ]
+
+    by_rest : (b : Bool) → list_any test xs ≡ b → (list_any test xs ≡ true → IsLast test xs) → IsLast test (x ∷ xs)
+    by_rest true is rest =
+        let last = rest is in
+        record {
+          found = record { place = suc last.found.place; item = last.found.item; at = last.found.at; passes = last.found.passes };
+          none_after = subst (λ (n : ℕ). list_any test (drop n (x ∷ xs)) ≡ false) (let e : suc (last.found.place + 1) ≡ suc last.found.place + 1 = omega arith in e) last.none_after;
+        }
+    by_rest false none rest = record { found = record { place = 0; item = x; at = refl; passes = here none }; none_after = none }
