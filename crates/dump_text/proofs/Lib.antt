@@ -3,6 +3,5 @@ pub mod Noted
 pub mod Seen
 pub mod Shown
 pub mod FieldRows
-pub mod Near
 pub mod Counted
 pub mod KeptNames

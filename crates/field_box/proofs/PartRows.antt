@@ -9,11 +9,11 @@ use Rattle.std.proofs.lemmas.Bool.Decides.{Decides-int_eq}
 use Rattle.std.proofs.lemmas.List.{length-map}
 use Rattle.std.proofs.lemmas.Simd.{map-map}
 use Rattle.uts_geom.specs.Counting.{length-counted}
-use Rattle.field_box.specs.ByPlace.{get-by_place}
 use Rattle.field_box.specs.WalkedRows.{above_low, is_in_row, rows_hold, walked_before}
 use Rattle.uts_geom.specs.declared.index.Index.{Index}
 use Rattle.uts_geom.specs.declared.span.Span.{Span}
 use Rattle.uts_geom.specs.Spans.{index, counted, row_indexes, is_between, is_inside, rows_of, width_of}
+use Rattle.uts_geom.specs.ByPlace.{get-by_place}
 use Rattle.field_box.specs.Fields.{NumberedSpan, HoldsAlong, IsField, IsRow, along, is_along, number_at}
 use Rattle.field_box.proofs.Stretches.{lies_along}
 

@@ -16,39 +16,19 @@ use Rattle.uts_geom.specs.declared.index.Index.{Index}
 use Rattle.uts_geom.specs.declared.span.Span.{Span}
 use Rattle.uts_geom.specs.Spans.{index, from_to, is_inside, row_indexes, indexes_of, width_of}
 use Rattle.uts_geom.specs.Counting.{get_left, get_right}
-use Rattle.field_box.specs.Fields.{is_same_index, number_at}
-use Rattle.field_box.specs.ByPlace.{length-from_to, get-from_to}
-
-by_coordinates : (i j : Index) → i.x ≡ j.x → i.y ≡ j.y → i.z ≡ j.z → i ≡ j
-by_coordinates i j x y z = ap (λ n. index n i.y i.z) x ∙ ap (λ n. index j.x n i.z) y ∙ ap (λ n. index j.x j.y n) z
-
-pub same_index_decides : (i j : Index) → Decides (is_same_index i j) (i ≡ j)
-same_index_decides i j =
-    Decides-like (is_same_index i j) (λ h. by_coordinates i j h.0 h.1.0 h.1.1) (λ e. (ap (λ k. k.x) e, (ap (λ k. k.y) e, ap (λ k. k.z) e)))
-    (Decides-and (int_eq i.x j.x) (int_eq i.y j.y && int_eq i.z j.z) (Decides-int_eq i.x j.x)
-    (Decides-and (int_eq i.y j.y) (int_eq i.z j.z) (Decides-int_eq i.y j.y) (Decides-int_eq i.z j.z)))
+use Rattle.uts_geom.specs.Places.{get-from_to, length-from_to, get-row, length-row}
+use Rattle.uts_geom.specs.SameIndexes.{is_same_index, position_of_index}
+use Rattle.field_box.specs.Fields.{number_at}
 
 module _ (s : Span) (once : AllPairs ◌≢◌ (indexes_of s)) where
-  -- an index of a span stands at its place alone
-  pub position_of_index : (k : ℕ) (i : Index) → slice_get (indexes_of s) k ≡ Some i → position (λ j. is_same_index i j) (indexes_of s) ≡ Some k
-  position_of_index k i at =
-      let indexes = indexes_of s in
-      let within = slice_get_within indexes k i at in
-      let here : get_or indexes k i ≡ i = get_or_from_slice_get indexes k i i at in
-      let place : position_or_len (λ j. is_same_index i j) indexes ≡ k =
-      position_or_len_is (λ j. is_same_index i j) indexes k i (omega arith)
-      (λ j before. false_from_ne_true _ (λ same. once j k i before within (sym ((same_index_decides i (get_or indexes j i)).0 same) ∙ sym here)))
-      (λ _. (same_index_decides i (get_or indexes k i)).1 (sym here)) in
-      rw (place, lt-ltb k (length indexes) within) refl
-
   pub number_at_place : (numbers : List ℤ) (k : ℕ) (i : Index) → slice_get (indexes_of s) k ≡ Some i →
       number_at (record { span = s; numbers = numbers }) i ≡ slice_index_or numbers k (pos 0)
   unfolding number_at
   number_at_place numbers k i at =
-      ap (λ (place : Option ℕ). option_map_or (λ (j : ℕ). slice_index_or numbers j (pos 0)) place (pos 0)) (position_of_index k i at)
+      ap (λ (place : Option ℕ). option_map_or (λ (j : ℕ). slice_index_or numbers j (pos 0)) place (pos 0)) (position_of_index (indexes_of s) once k i at)
 
   pub one_place : (j k : ℕ) (i : Index) → slice_get (indexes_of s) j ≡ Some i → slice_get (indexes_of s) k ≡ Some i → j ≡ k
-  one_place j k i here there = same_Some j k (sym (position_of_index j i here) ∙ position_of_index k i there)
+  one_place j k i here there = same_Some j k (sym (position_of_index (indexes_of s) once j i here) ∙ position_of_index (indexes_of s) once k i there)
 
 -- an index inside a span has a place
 pub place_inside : (s : Span) → ((i : Index) → Contains (indexes_of s) i ↔ IsTrue (is_inside s i)) → (i : Index) → IsTrue (is_inside s i) →
@@ -56,13 +36,6 @@ pub place_inside : (s : Span) → ((i : Index) → Contains (indexes_of s) i ↔
 place_inside s holds i inside =
     let there = (holds i).1 inside in
     (there.0, slice_get-get_or (indexes_of s) there.0 i there.1 ∙ ap (λ (j : Index). Some j) there.2)
-
-pub length-row : (s : Span) (y z : ℤ) → length (row_indexes s y z) ≡ width_of s
-length-row s y z = length-map (from_to s.lo.x s.hi.x) (λ x. index x y z) ∙ length-from_to s.lo.x s.hi.x
-
-get-row : (s : Span) (y z : ℤ) (k : ℕ) → k < width_of s → slice_get (row_indexes s y z) k ≡ Some (index (s.lo.x +ℤ pos k) y z)
-get-row s y z k below =
-    slice_get-map (λ (x : ℤ). index x y z) (from_to s.lo.x s.hi.x) k ∙ ap (option_map (λ (x : ℤ). index x y z)) (get-from_to s.lo.x s.hi.x k below)
 
 below_width : (low high x : ℤ) (k : ℕ) → low +ℤ pos k ≡ x → int_lt (x +ℤ pos 1) high ≡ true → k + 1 < int_gap low high
 below_width low high x k at below = grind (arith, ints)

@@ -12,9 +12,10 @@ use Rattle.std.proofs.lemmas.Simd.{map-map}
 use Rattle.uts_geom.specs.declared.index.Index.{Index}
 use Rattle.uts_geom.specs.declared.span.Span.{Span}
 use Rattle.uts_geom.specs.Spans.{index, counted, is_between, is_inside, indexes_of}
-use Rattle.field_box.specs.Fields.{NumberedSpan, HoldsAlong, IsField, along, is_along, is_same_index, number_at}
-use Rattle.field_box.specs.ByPlace.{listed_by, first_of_three, second_of_three, third_of_three}
-use Rattle.field_box.proofs.Places.{number_at_place, one_place, place_inside, places_along, same_index_decides}
+use Rattle.uts_geom.specs.ByPlace.{first_of_three, listed_by, second_of_three, third_of_three}
+use Rattle.uts_geom.specs.SameIndexes.{is_same_index, same_index_decides}
+use Rattle.field_box.specs.Fields.{NumberedSpan, HoldsAlong, IsField, along, is_along, number_at}
+use Rattle.field_box.proofs.Places.{number_at_place, one_place, place_inside, places_along}
 
 -- what lies inside a span lies below its high bound along x
 below_high : (low high x : ℤ) → is_between low high x ≡ true → int_lt x high ≡ true

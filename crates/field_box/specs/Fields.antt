@@ -5,14 +5,12 @@ use Rattle.std.specs.Ordering.{int_eq}
 use Rattle.uts_geom.specs.Spans.{index, counted, indexes_of, is_between, is_inside}
 use Rattle.uts_geom.specs.declared.index.Index.{Index}
 use Rattle.uts_geom.specs.declared.span.Span.{Span}
+use Rattle.uts_geom.specs.SameIndexes.{is_same_index}
 
 -- a span, and the numbers of its indexes in their order: x goes fastest, then y, then z
 pub record NumberedSpan : Type 0 where
   pub span : Span
   pub numbers : List ℤ
-
-abbrev pub is_same_index : Index → Index → Bool
-is_same_index i j = int_eq i.x j.x && (int_eq i.y j.y && int_eq i.z j.z)
 
 -- the number of an index: the one that stands at its place among the indexes of the span, and 0 where the span does not hold it
 unfoldable pub number_at : NumberedSpan → Index → ℤ

@@ -1,4 +1,2 @@
 pub mod Fields
-pub mod ByPlace
-pub mod Near
 pub mod WalkedRows

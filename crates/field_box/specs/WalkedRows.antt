@@ -12,8 +12,8 @@ use Rattle.std.proofs.lemmas.Option.{slice_get_within, get_or_from_slice_get}
 use Rattle.uts_geom.specs.declared.index.Index.{Index}
 use Rattle.uts_geom.specs.declared.span.Span.{Span}
 use Rattle.uts_geom.specs.Spans.{from_to, is_between, is_inside, all_rows, rows_of}
+use Rattle.uts_geom.specs.Places.{get-from_to, length-from_to}
 use Rattle.field_box.specs.Fields.{IsRow}
-use Rattle.field_box.specs.ByPlace.{length-from_to, get-from_to}
 
 abbrev pub is_in_row : (y z : ℤ) → Index → Bool
 is_in_row y z i = int_eq i.y y && int_eq i.z z

@@ -2,7 +2,8 @@
 ghost use Rattle.std.specs.Prelude.{◌≡◌, ◌≤◌, ◌^◌, ◌<◌, ◌+◌, ◌++◌, replicate, set, take, drop, IsTrue, IfOk, length, map, pos, slice_index_or, if◌then◌else◌};
 ghost use Rattle.std.specs.Int.{int_gap};
 ghost use Rattle.uts_geom.specs.Spans.{is_inside, indexes_of, IsNearSpan};
-ghost use Rattle.field_box.specs.Fields.{along, is_along, is_same_index, number_at, HoldsAlong, IsField};
+ghost use Rattle.field_box.specs.Fields.{along, is_along, number_at, HoldsAlong, IsField};
+ghost use Rattle.uts_geom.specs.SameIndexes.{is_same_index};
 
 use std::alloc::{AllocError, Global};
 use std::marker::Model;

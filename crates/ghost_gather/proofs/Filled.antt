@@ -9,8 +9,8 @@ use Rattle.std.proofs.lemmas.Simd.{map-map}
 use Rattle.uts_geom.specs.declared.index.Index.{Index}
 use Rattle.uts_geom.specs.Counting.{length-counted}
 use Rattle.uts_geom.specs.Spans.{index, counted, is_between, is_inside, IsNearNumber}
+use Rattle.uts_geom.specs.ByPlace.{first_of_three, get-by_place, length-by_place, listed_by, second_of_three, third_of_three}
 use Rattle.field_box.specs.Fields.{HoldsAlong, along, number_at}
-use Rattle.field_box.specs.ByPlace.{length-by_place, get-by_place, listed_by, first_of_three, second_of_three, third_of_three}
 use Rattle.ghost_gather.specs.Storing.{IsStored}
 use Rattle.ghost_gather.specs.Windows.{WindowData, number_seen}
 

@@ -9,20 +9,6 @@ use Rattle.ghost_rules.specs.declared.along.Along.{Along}
 use Rattle.ghost_rules.specs.declared.along.Along.TheVariants.{Nothing, Intervals, Points, Own}
 use Rattle.ghost_rules.specs.Windows.{AreFew, layers_along, window_begin, window_end}
 
-pub few_along : (k : GhostKind) (n : ℕ) (axis : Axis) → n ≤ 8 → AreFew (layers_along k n axis)
-few_along kind.None n axis few = tt
-few_along kind.Cells n axis few = few
-few_along kind.Nodes n axis few = few
-few_along kind.FaceX n X few = few
-few_along kind.FaceX n Y few = few
-few_along kind.FaceX n Z few = few
-few_along kind.FaceY n X few = few
-few_along kind.FaceY n Y few = few
-few_along kind.FaceY n Z few = few
-few_along kind.FaceZ n X few = few
-few_along kind.FaceZ n Y few = few
-few_along kind.FaceZ n Z few = few
-
 pub begins_near : (a : Along) (point : Bool) → AreFew a → (negsuc 7 ≤ℤ window_begin a point) × (window_begin a point ≤ℤ pos 1)
 begins_near Nothing point few = (omega (arith, ints), omega (arith, ints))
 begins_near (Intervals n) false few = (omega (arith, ints), omega (arith, ints))

@@ -7,10 +7,11 @@ use Rattle.std.proofs.lemmas.List.Elements.{All-from_get_or}
 use Rattle.std.proofs.lemmas.Option.{get_or_from_slice_get}
 use Rattle.uts_geom.specs.Spans.{counted}
 use Rattle.uts_geom.specs.Counting.{get-counted, length-counted}
+use Rattle.uts_geom.specs.Lists.{placed}
 use Rattle.graph_types.specs.Counting.{has_all, has_from}
 use Rattle.graph_types.specs.Graph.{IsSlotList, has}
 use Rattle.graph_compiler.specs.Plan.{places_of}
-use Rattle.graph_compiler.proofs.ValidLists.{are_places as all_places, has-places, placed}
+use Rattle.graph_compiler.proofs.ValidLists.{are_places as all_places, has-places}
 
 or_true : (b : Bool) → (b || true) ≡ true
 or_true true = refl

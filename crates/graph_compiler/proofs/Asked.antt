@@ -10,6 +10,7 @@ use Rattle.std.proofs.lemmas.Option.{get_or_from_slice_get, slice_get-map, slice
 use Rattle.kernel_ast.specs.declared.expression.Store.TheVariants as store
 use Rattle.uts_geom.specs.declared.centring.Centring.{Centring}
 use Rattle.uts_geom.specs.Counting.{length-counted}
+use Rattle.uts_geom.specs.Lists.{all_at, at_place, of_option, placed, place_of_found}
 use Rattle.problem_types.specs.Form.{IsLevelInForm, IsProblemInForm}
 use Rattle.problem_types.specs.Lists.{centring_of, is_of_field, is_reduces, reduction_place, runs_on, variable_place}
 use Rattle.problem_types.specs.declared.problem.Problem.{Problem}
@@ -41,8 +42,6 @@ use Rattle.graph_compiler.proofs.InWindows.{found_in_windows, reached_by, reache
 use Rattle.graph_compiler.specs.Slots.{AreOnce}
 use Rattle.graph_compiler.proofs.OneLine.{are_once}
 use Rattle.graph_compiler.proofs.Placed.{none_at, position_at, position_none}
-use Rattle.graph_compiler.proofs.ValidForward.{place_of_found}
-use Rattle.graph_compiler.proofs.ValidLists.{all_at, at_place, of_option, placed}
 use Rattle.graph_compiler.proofs.Wanting.{new_number_at, no_new_number, old_found, number_source, old_number_at, old_number_read, variable_source}
 
 pub length-patches : (p : Problem) (level : ℕ) (l : Level) → slice_get p.levels level ≡ Some l → length (patches_of p level) ≡ length l.patches

@@ -4,6 +4,7 @@ use Rattle.std.specs.Prelude.{All, filter}
 use Rattle.std.specs.List.{flat_map}
 use Rattle.std.proofs.lemmas.List.{length-map, map-append}
 use Rattle.std.proofs.lemmas.Option.{slice_get-get_or}
+use Rattle.uts_geom.specs.Lists.{placed}
 use Rattle.problem_types.specs.Form.{IsProblemInForm, IsShort}
 use Rattle.problem_types.specs.Lists.{task_list}
 use Rattle.problem_types.specs.declared.problem.Problem.{Problem}
@@ -29,7 +30,6 @@ use Rattle.graph_compiler.specs.declared.plan.ListKind.TheVariants as list
 use Rattle.graph_compiler.specs.declared.plan.Plan.{Plan}
 use Rattle.graph_compiler.specs.declared.plan.Slot.{Slot}
 use Rattle.graph_compiler.specs.declared.plan.StepKind.{StepKind}
-use Rattle.graph_compiler.proofs.ValidLists.{placed}
 use Rattle.graph_compiler.proofs.ValidPlans.{each_kept, old_count_is, plans_valid}
 
 pub list_is : (p : Problem) (l : ListKind) → tasks_in p l ≡ task_list p (list_number l)

@@ -9,6 +9,7 @@ use Rattle.std.proofs.lemmas.List.Elements.{All-contains}
 use Rattle.std.proofs.lemmas.List.Folds.{find_at}
 use Rattle.std.proofs.lemmas.List.Quantifiers.{position-Some}
 use Rattle.std.proofs.lemmas.Option.{get_or_from_slice_get, same_Some, slice_get-get_or, slice_get-map, slice_get_past, slice_get_within}
+use Rattle.uts_geom.specs.Lists.{all_at, placed}
 use Rattle.problem_types.specs.Lists.{is_of_field, is_reduces, reduction_place, variable_place}
 use Rattle.problem_types.specs.declared.problem.Problem.{Problem}
 use Rattle.problem_types.specs.declared.problem.Reduction.{Reduction}
@@ -29,7 +30,6 @@ use Rattle.graph_compiler.specs.declared.plan.ListKind.TheVariants as list
 use Rattle.graph_compiler.specs.declared.plan.Slot.{Slot}
 use Rattle.graph_compiler.specs.Slots.{IsNumberOf, IsOfList, IsOnPatch}
 use Rattle.graph_compiler.proofs.Standing.{slot_is_of_list}
-use Rattle.graph_compiler.proofs.ValidLists.{all_at, placed}
 
 -- the tasks of a list are bounded
 pub bounded_list : (p : Problem) (l : ListKind) (tasks : List Task) → IsBounded p → tasks ≡ tasks_in p l → AreBoundedTasks p tasks

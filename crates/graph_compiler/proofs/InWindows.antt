@@ -8,6 +8,7 @@ use Rattle.kernel_ast.specs.declared.expression.Store.TheVariants as store
 use Rattle.uts_geom.specs.Spans.{counted}
 use Rattle.uts_geom.specs.declared.centring.Centring.{Centring}
 use Rattle.uts_geom.specs.declared.span.Span.{Span}
+use Rattle.uts_geom.specs.Lists.{all_at}
 use Rattle.problem_types.specs.Lists.{centring_of}
 use Rattle.problem_types.specs.declared.problem.Problem.{Problem}
 use Rattle.problem_types.specs.declared.problem.Level.{Level}
@@ -28,7 +29,6 @@ use Rattle.task_check.specs.declared.plan.reach.Reach.{Reach}
 use Rattle.task_check.specs.declared.plan.reach.Reach.TheVariants as reaches
 use Rattle.graph_compiler.specs.Searched.{AreSearched, IsFor, IsSearched, found_by}
 use Rattle.graph_compiler.specs.declared.touched.Touched.{Touched}
-use Rattle.graph_compiler.proofs.ValidLists.{all_at}
 
 -- a requirement of a variable reaches the level that it wants, by the windows that it asks for
 pub record IsReachedBy (p : Problem) (t : Task) (at : Store) (w : What) (reach : Reach) : Type 0 where

@@ -15,6 +15,7 @@ use Rattle.uts_geom.specs.Counting.{counted-at, get_left, get_right, length-coun
 use Rattle.graph_types.specs.Counting.{filter_at}
 use Rattle.std.proofs.lemmas.Map.Keys.{sorted_from_strictly_increasing}
 use Rattle.std.proofs.lemmas.Map.Views.{length-le_from_below}
+use Rattle.uts_geom.specs.Lists.{placed, from_take}
 use Rattle.problem_types.specs.Form.{IsNumberList, IsTaskInForm}
 use Rattle.problem_types.specs.Lists.{is_reduces}
 use Rattle.problem_types.specs.declared.problem.Problem.{Problem}
@@ -28,8 +29,7 @@ use Rattle.graph_compiler.specs.Places.{StandsAt}
 use Rattle.graph_compiler.specs.declared.layout.Layout.{Layout}
 use Rattle.graph_compiler.proofs.Growing.{counted_more}
 use Rattle.graph_compiler.proofs.TaskSlots.{flat_map-flat_map, flat_map-map}
-use Rattle.graph_compiler.proofs.ValidForward.{from_take}
-use Rattle.graph_compiler.proofs.ValidLists.{count-range, counted-below, placed, same_numbers}
+use Rattle.graph_compiler.proofs.ValidLists.{count-range, counted-below, same_numbers}
 use Rattle.graph_compiler.proofs.ValidOrders.{all-flat_map}
 
 -- ---- places in joined lists

@@ -4,6 +4,7 @@ use Rattle.std.specs.Prelude.{slice_get, ◌==◌, ◌&&◌}
 use Rattle.std.specs.List.{list_any}
 use Rattle.std.specs.Option.{is_some}
 use Rattle.std.proofs.lemmas.Bool.{and_from, and_parts, cases_order, eq-eqb}
+use Rattle.uts_geom.specs.Lists.{any_at, of_option, get-take, found_at}
 use Rattle.problem_types.specs.Form.{IsProblemInForm}
 use Rattle.problem_types.specs.Lists.{is_computes, is_of_field, is_reduces, reduction_write, task_list}
 use Rattle.problem_types.specs.declared.problem.Problem.{Problem}
@@ -20,8 +21,7 @@ use Rattle.task_check.specs.Plan.{Slot, is_line_of, line_is}
 use Rattle.graph_compiler.specs.Places.{StandsAt}
 use Rattle.graph_compiler.specs.Slots.{AreOnce}
 use Rattle.graph_compiler.proofs.Standing.{slots_stand_once}
-use Rattle.graph_compiler.proofs.ValidForward.{found_at, get-take, reduced_once}
-use Rattle.graph_compiler.proofs.ValidLists.{any_at, of_option}
+use Rattle.graph_compiler.proofs.ValidForward.{reduced_once}
 
 -- a line of a task at its place, of this name and such a kind
 pub record IsLineAt (tasks : List Task) (test : Write → Bool) (name task line : ℕ) : Type 0 where

@@ -5,16 +5,10 @@ use Rattle.std.specs.List.{list_any, position, position_or_len}
 use Rattle.std.specs.Option.{option_map_or}
 use Rattle.std.proofs.lemmas.Bool.{and_from, and_parts, cases_eq, cases_order, false_from_ne_true, lt-ltb, ltb-false, ltb-true}
 use Rattle.std.proofs.lemmas.Option.{cond_some}
+use Rattle.uts_geom.specs.Lists.{any_at, at_place, of_option, from_take, get-take, get-drop}
 use Rattle.problem_types.specs.declared.problem.Task.{Task}
 use Rattle.task_check.specs.Plan.{is_last_writer, writes_variable}
 use Rattle.graph_compiler.specs.Sources.{IsLast}
-use Rattle.graph_compiler.proofs.ValidForward.{from_take, get-take}
-use Rattle.graph_compiler.proofs.ValidLists.{any_at, at_place, of_option}
-
-pub get-drop : {A : Type 0} (xs : List A) (n k : ℕ) → slice_get (drop n xs) k ≡ slice_get xs (n + k)
-get-drop xs zero k = ap (slice_get xs) (let e : k ≡ 0 + k = omega arith in e)
-get-drop [] (suc n) k = refl
-get-drop (x ∷ xs) (suc n) k = get-drop xs n k ∙ ap (slice_get (x ∷ xs)) (let e : suc (n + k) ≡ suc n + k = omega arith in e)
 
 -- two tests that pass together
 pub same_tests : (a b : Bool) → (a ≡ true → b ≡ true) → (b ≡ true → a ≡ true) → a ≡ b

@@ -9,6 +9,7 @@ use Rattle.std.proofs.lemmas.List.Elements.{All-from_get_or, All-map, All-tail, 
 use Rattle.std.proofs.lemmas.Option.{same_Some, slice_get_within}
 use Rattle.uts_geom.specs.Spans.{counted}
 use Rattle.uts_geom.specs.Counting.{length-counted}
+use Rattle.uts_geom.specs.Lists.{all_at, of_option, placed}
 use Rattle.problem_types.specs.Form.{IsProblemInForm}
 use Rattle.problem_types.specs.Lists.{is_reduces, task_list}
 use Rattle.problem_types.specs.declared.problem.Problem.{Problem}
@@ -28,7 +29,6 @@ use Rattle.graph_compiler.proofs.Ascending.{are_places}
 use Rattle.graph_compiler.proofs.Laying.{patch_at, written_at}
 use Rattle.graph_compiler.proofs.Searching.{at_number}
 use Rattle.graph_compiler.proofs.Standing.{slot_is_of_list, slots_stand_once}
-use Rattle.graph_compiler.proofs.ValidLists.{all_at, of_option, placed}
 use Rattle.graph_compiler.proofs.ValidOrders.{all-flat_map}
 use Rattle.graph_compiler.proofs.Writing.{same_answers}
 

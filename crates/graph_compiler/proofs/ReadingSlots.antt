@@ -4,6 +4,7 @@ use Rattle.std.specs.Prelude.{slice_get, All, ◌==◌}
 use Rattle.std.specs.List.{flat_map, list_any}
 use Rattle.std.specs.List.Sorted.{IsStrictlyIncreasing}
 use Rattle.std.specs.Option.{option_map_or}
+use Rattle.uts_geom.specs.Lists.{not_above}
 use Rattle.problem_types.specs.Lists.{task_list}
 use Rattle.problem_types.specs.declared.problem.Problem.{Problem}
 use Rattle.problem_types.specs.declared.problem.Task.{Task}
@@ -20,7 +21,6 @@ use Rattle.graph_compiler.specs.declared.touched.Touched.{Touched}
 use Rattle.graph_compiler.proofs.Ascending.{are_places}
 use Rattle.graph_compiler.proofs.LastVersions.{list_any-flat_map}
 use Rattle.graph_compiler.proofs.ValidOrders.{all-flat_map}
-use Rattle.graph_compiler.proofs.ValidPlans.{not_above}
 
 -- a list of an accepted problem has few slots
 pub few_slots : (p : Problem) → IsAccepted p → (list : ℕ) → list < 2 → length (slots_of p (task_list p list)) ≤ 262144

@@ -10,6 +10,7 @@ use Rattle.std.proofs.lemmas.List.Kept.{AllPairs-cons, AllPairs-filter, AllPairs
 use Rattle.std.proofs.lemmas.Option.{slice_get-map, slice_get-get_or, slice_get_within, get_or_from_slice_get}
 use Rattle.uts_geom.specs.Spans.{counted}
 use Rattle.uts_geom.specs.Counting.{counted-at, length-counted}
+use Rattle.uts_geom.specs.Lists.{all_at, any_at, of_option, get-take}
 use Rattle.problem_types.specs.Form.{IsProblemInForm}
 use Rattle.problem_types.specs.Lists.{is_of_field, is_reduces, task_list}
 use Rattle.problem_types.specs.declared.problem.Problem.{Problem}
@@ -28,8 +29,7 @@ use Rattle.graph_compiler.specs.Plan.{is_old}
 use Rattle.graph_compiler.specs.Slots.{IsDetailOf, IsNumberOf, IsOfList, IsOldOn, IsOnPatch}
 use Rattle.graph_compiler.proofs.LastVersions.{list_any-flat_map}
 use Rattle.graph_compiler.proofs.ValidDetails.{Before, IsBy, not_itself, one_writer, written_are_new, written_is_by}
-use Rattle.graph_compiler.proofs.ValidForward.{get-take}
-use Rattle.graph_compiler.proofs.ValidLists.{all_at, any_at, counted-below, counted-rises, of_option}
+use Rattle.graph_compiler.proofs.ValidLists.{counted-below, counted-rises}
 use Rattle.graph_compiler.proofs.ValidOrders.{all-flat_map, all-option, at_places, ordered-append, ordered-flat_map, ordered-map, ordered-nil, ordered-option, ordered-weaker}
 use Rattle.graph_compiler.proofs.ValidPlans.{olds_are_old, ordered}
 

@@ -9,6 +9,7 @@ use Rattle.std.proofs.lemmas.List.Elements.{All-nil, All-cons, All-append, All-m
 use Rattle.std.proofs.lemmas.List.Folds.{list_any_at}
 use Rattle.std.proofs.lemmas.List.Kept.{AllPairs-filter, AllPairs-from_increasing}
 use Rattle.uts_geom.specs.Spans.{counted}
+use Rattle.uts_geom.specs.Lists.{all_at, at_place}
 use Rattle.problem_types.specs.Lists.{is_reduces}
 use Rattle.problem_types.specs.declared.problem.Problem.{Problem}
 use Rattle.problem_types.specs.declared.problem.Task.{Task}
@@ -17,7 +18,7 @@ use Rattle.problem_types.specs.declared.problem.WriteKind.{WriteKind}
 use Rattle.problem_types.specs.declared.problem.WriteKind.TheVariants as kind
 use Rattle.task_check.specs.Plan.{Detail, OnPatch, Combining, Slot, Old, OldNumber, New, Part, Number, patches_of, line_is, on_patches, combining, details_of, slot_written, written_by}
 use Rattle.graph_compiler.specs.Plan.{is_same, is_writing, is_old}
-use Rattle.graph_compiler.proofs.ValidLists.{at_place, all_at, count-none, count-one, counted-rises}
+use Rattle.graph_compiler.proofs.ValidLists.{count-none, count-one, counted-rises}
 use Rattle.graph_compiler.proofs.ValidOrders.{all-flat_map, all-option, at_places, ordered-append, ordered-option, ordered-map, ordered-flat_map, ordered-weaker}
 
 -- The order of detailed tasks: by task, level, material and patch, and behind those on patches the ones that combine, by line.

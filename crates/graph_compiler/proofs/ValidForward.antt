@@ -4,6 +4,7 @@ use Rattle.std.specs.Prelude.{slice_get, ◌==◌, ◌&&◌, nat_lt, if◌then�
 use Rattle.std.specs.List.{list_any, find}
 use Rattle.std.specs.Option.{is_some}
 use Rattle.std.proofs.lemmas.Bool.{and_parts, cases_order, true_from_ne_false}
+use Rattle.uts_geom.specs.Lists.{any_at, at_place, of_option, from_take, get-take, found_at, place_of_found}
 use Rattle.kernel_ast.specs.declared.expression.Store.{Store}
 use Rattle.kernel_ast.specs.declared.expression.Store.TheVariants as store
 use Rattle.problem_types.specs.Lists.{task_list, is_of_field, is_reduces, reduction_write}
@@ -22,39 +23,7 @@ use Rattle.task_check.specs.Faults.{of_require, of_write}
 use Rattle.task_check.specs.First.{IsFaultless}
 use Rattle.task_check.specs.Plan.{Detail, OnPatch, Combining, Slot, Old, OldNumber, New, Part, Number, patch_of, line_is, is_line_of, is_last_writer, has_variable, has_number, is_in_window, is_of_number, is_part_of, wants, reads}
 use Rattle.graph_compiler.specs.Plan.{is_writing}
-use Rattle.graph_compiler.proofs.ValidLists.{any_at, at_place, of_option}
 use Rattle.graph_compiler.proofs.ValidDetails.{IsBy, Precedes, task_of, precedes_by_task, parts_precede, writer_is}
-
-pub get-take : {A : Type 0} (xs : List A) (n k : ℕ) → k < n → slice_get (take n xs) k ≡ slice_get xs k
-get-take xs zero k below = absurd (omega arith)
-get-take [] (suc n) k below = refl
-get-take (x ∷ xs) (suc n) zero below = refl
-get-take (x ∷ xs) (suc n) (suc k) below = get-take xs n k (omega arith)
-
-pub from_take : {A : Type 0} (xs : List A) (n k : ℕ) (x : A) → slice_get (take n xs) k ≡ Some x → (k < n) × (slice_get xs k ≡ Some x)
-from_take xs zero k x at = absurd cc
-from_take [] (suc n) k x at = absurd cc
-from_take (y ∷ ys) (suc n) zero x at = (omega arith, at)
-from_take (y ∷ ys) (suc n) (suc k) x at = let rest = from_take ys n k x at in (omega (arith, rest.0), rest.1)
-
-pub found_at : {A : Type 0} (p : A → Bool) (xs : List A) (k : ℕ) (x : A) → slice_get xs k ≡ Some x → p x ≡ true → is_some (find p xs) ≡ true
-found_at p [] k x at passes = absurd cc
-found_at p (y ∷ ys) zero x at passes = let same : y ≡ x = cc in rw (same, passes) refl
-found_at {A} p (y ∷ ys) (suc k) x at passes = by_test (p y) (found_at p ys k x at passes)
-  where
-    by_test : (b : Bool) → is_some (find p ys) ≡ true → is_some (cond b (Some y) (find p ys)) ≡ true
-    by_test true rest = refl
-    by_test false rest = rest
-
-pub place_of_found : {A : Type 0} (p : A → Bool) (xs : List A) → is_some (find p xs) ≡ true → (k : ℕ) × (x : A) × (slice_get xs k ≡ Some x) × (p x ≡ true)
-place_of_found p [] some = absurd cc
-place_of_found {A} p (y ∷ ys) some = by_test (p y) refl some (place_of_found p ys)
-  where
-    by_test : (b : Bool) → p y ≡ b → is_some (cond b (Some y) (find p ys)) ≡ true →
-        (is_some (find p ys) ≡ true → (k : ℕ) × (x : A) × (slice_get ys k ≡ Some x) × (p x ≡ true)) →
-        (k : ℕ) × (x : A) × (slice_get (y ∷ ys) k ≡ Some x) × (p x ≡ true)
-    by_test true is some rest = (0, y, refl, is)
-    by_test false is some rest = let there = rest some in (suc there.0, there.1, there.2, there.3)
 
 -- the line reduces the name
 abbrev reduces_it : ℕ → Write → Bool

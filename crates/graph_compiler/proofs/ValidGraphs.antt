@@ -7,11 +7,12 @@ use Rattle.std.proofs.lemmas.List.Elements.{All-map}
 use Rattle.std.proofs.lemmas.List.FromFn.{length-map-range_with_len, get_or-map-range_with_len}
 use Rattle.std.proofs.lemmas.List.Sums.{sum_by-cons}
 use Rattle.std.proofs.lemmas.Option.{slice_get-map, get_or_from_slice_get}
+use Rattle.uts_geom.specs.Lists.{all_at, any_at, at_place, placed}
 use Rattle.graph_types.specs.Graph.{IsSlotList, HasLengths, IsWithinLimits, AreSlotsValid, AreTasksOrdered, IsValid, has, reads, writes_of, follows}
 use Rattle.graph_types.specs.declared.graph.Graph.{Graph}
 use Rattle.graph_types.specs.Linked.{linked}
 use Rattle.graph_compiler.specs.Plan.{places_of}
-use Rattle.graph_compiler.proofs.ValidLists.{any_at, at_place, placed, all_at, every, count-range, length-places, has-places, are_places}
+use Rattle.graph_compiler.proofs.ValidLists.{every, count-range, length-places, has-places, are_places}
 
 module _ {D S : Type 0} (ds : List D) (ss : List S) (f : D → S → Bool) where
   abbrev pub places : List (List ℕ)

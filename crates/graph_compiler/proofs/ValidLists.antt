@@ -13,6 +13,7 @@ use Rattle.std.proofs.lemmas.Map.Views.{any-filter_same}
 use Rattle.std.proofs.lemmas.Option.{slice_get_within, slice_get-get_or, get_or_from_slice_get}
 use Rattle.uts_geom.specs.Spans.{counted}
 use Rattle.uts_geom.specs.Counting.{counted-at, length-counted}
+use Rattle.uts_geom.specs.Lists.{any_at}
 use Rattle.graph_types.specs.Graph.{IsSlotList, has}
 use Rattle.graph_compiler.specs.Plan.{places_of}
 
@@ -26,28 +27,6 @@ range-more low (suc n) =
 pub same_numbers : (low n : ℕ) → counted low n ≡ range_with_len low n
 same_numbers low zero = refl
 same_numbers low (suc n) = ap (λ (xs : List ℕ). xs ++ (low + n) ∷ []) (same_numbers low n) ∙ sym (range-more low n)
-
--- What stands at a place, and whether some value passes.
-pub any_at : {A : Type 0} (p : A → Bool) (xs : List A) (k : ℕ) (x : A) → slice_get xs k ≡ Some x → p x ≡ true → list_any p xs ≡ true
-any_at p xs k x at passes = list_any_at p xs k x (slice_get_within xs k x at) (ap p (get_or_from_slice_get xs k x x at) ∙ passes)
-
-pub at_place : {A : Type 0} (p : A → Bool) (xs : List A) → list_any p xs ≡ true → (k : ℕ) × (x : A) × (slice_get xs k ≡ Some x) × (p x ≡ true)
-at_place p xs some =
-    let there = Any-from_list_any p xs some in
-    (there.0, there.1, slice_get-get_or xs there.0 there.1 there.2 ∙ ap Some there.3, there.4)
-
-pub of_option : {A : Type 0} (f : A → Bool) (o : Option A) → option_map_or f o false ≡ true → (x : A) × (o ≡ Some x) × (f x ≡ true)
-of_option f None holds = absurd cc
-of_option f (Some x) holds = (x, refl, holds)
-
-pub placed : {A : Type 0} (xs : List A) (n : ℕ) → n < length xs → (x : A) × (slice_get xs n ≡ Some x)
-placed [] n below = absurd (omega arith)
-placed (x ∷ xs) zero below = (x, refl)
-placed (x ∷ xs) (suc n) below = placed xs n (omega arith)
-
--- what holds of each value of a list holds of the one at a place
-pub all_at : {A : Type 0} (P : A → Type 0) (xs : List A) (n : ℕ) (x : A) → slice_get xs n ≡ Some x → All P xs → P x
-all_at P xs n x at each = subst P (get_or_from_slice_get xs n x x at) (each n x (slice_get_within xs n x at))
 
 pub every : {X : Type 0} (P : X → Type 0) (xs : List X) → ((x : X) → P x) → All P xs
 every P xs holds = λ k d below. holds (get_or xs k d)

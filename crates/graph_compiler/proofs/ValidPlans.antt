@@ -9,6 +9,7 @@ use Rattle.std.proofs.lemmas.List.Sums.{sum_by-append, sum_by-cons}
 use Rattle.std.proofs.lemmas.Option.{slice_get-map, get_or_from_slice_get}
 use Rattle.uts_geom.specs.Spans.{counted}
 use Rattle.uts_geom.specs.Counting.{get_left, get_right}
+use Rattle.uts_geom.specs.Lists.{all_at, not_above}
 use Rattle.problem_types.specs.Form.{IsProblemInForm, IsTaskInForm, AreTasksInForm}
 use Rattle.problem_types.specs.Lists.{task_list}
 use Rattle.problem_types.specs.declared.problem.Problem.{Problem}
@@ -30,17 +31,11 @@ use Rattle.graph_compiler.specs.declared.plan.ListKind.{ListKind}
 use Rattle.graph_compiler.specs.declared.plan.ListKind.TheVariants as list
 use Rattle.graph_compiler.specs.declared.plan.Slot.{Slot as ShownSlot}
 use Rattle.graph_compiler.specs.declared.plan.StepKind.{StepKind}
-use Rattle.graph_compiler.proofs.ValidLists.{all_at, count-none, count-some}
+use Rattle.graph_compiler.proofs.ValidLists.{count-none, count-some}
 use Rattle.graph_compiler.proofs.ValidOrders.{all-flat_map}
 use Rattle.graph_compiler.proofs.ValidGraphs.{IsFit, fit_is_valid}
 use Rattle.graph_compiler.proofs.ValidDetails.{Before, in_order, ordered_details, old_unwritten, written_are_new, written_once}
 use Rattle.graph_compiler.proofs.ValidForward.{readers_behind}
-
-pub not_above : (n m : ℕ) → (m < n → ⊥) → n ≤ m
-not_above n m none = by_order (cases_lt m n) where
-  by_order : (m < n) ⊎ (n ≤ m) → n ≤ m
-  by_order (inl above) = absurd (none above)
-  by_order (inr within) = within
 
 count-all : {X : Type 0} (p : X → Bool) (xs : List X) → ((k : ℕ) (x : X) → slice_get xs k ≡ Some x → p x ≡ true) → count_by p xs ≡ length xs
 count-all p [] each = refl

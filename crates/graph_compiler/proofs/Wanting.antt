@@ -9,6 +9,7 @@ use Rattle.std.proofs.lemmas.Option.{slice_get-map, slice_get_within}
 use Rattle.kernel_ast.specs.declared.expression.Store.{Store}
 use Rattle.kernel_ast.specs.declared.expression.Store.TheVariants as store
 use Rattle.uts_geom.specs.Counting.{counted-at, length-counted}
+use Rattle.uts_geom.specs.Lists.{all_at, any_at, at_place}
 use Rattle.problem_types.specs.Lists.{is_of_field, is_reduces, variable_place}
 use Rattle.problem_types.specs.declared.problem.Problem.{Problem}
 use Rattle.problem_types.specs.declared.problem.Require.{Require}
@@ -27,7 +28,6 @@ use Rattle.graph_compiler.proofs.LastVersions.{list_any-map}
 use Rattle.graph_compiler.proofs.Placed.{last_is_writer, no_writer, none_at, one_writer, position_none, same_tests}
 use Rattle.graph_compiler.specs.Slots.{AreOnce, IsOfList}
 use Rattle.graph_compiler.proofs.Standing.{contained_at, in_counted, slot_is_of_list, wanted_is_read}
-use Rattle.graph_compiler.proofs.ValidLists.{all_at, any_at, at_place}
 
 -- ---- lists
 

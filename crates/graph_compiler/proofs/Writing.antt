@@ -8,6 +8,7 @@ use Rattle.std.proofs.lemmas.List.Elements.{All-from_get_or, All-tail}
 use Rattle.std.proofs.lemmas.Option.{get_or_from_slice_get, same_Some, slice_get_within}
 use Rattle.uts_geom.specs.Spans.{counted}
 use Rattle.uts_geom.specs.Counting.{counted-at, get-counted, get_right, length-counted}
+use Rattle.uts_geom.specs.Lists.{all_at, any_at, at_place, placed}
 use Rattle.problem_types.specs.Form.{IsProblemInForm}
 use Rattle.problem_types.specs.Lists.{task_list}
 use Rattle.problem_types.specs.declared.problem.Problem.{Problem}
@@ -25,7 +26,7 @@ use Rattle.graph_compiler.proofs.Laying.{details_at, each_one, each_size, get-jo
 use Rattle.graph_compiler.proofs.Standing.{slots_stand_once}
 use Rattle.graph_compiler.proofs.TaskSlots.{at_all_places, map-flat_map}
 use Rattle.graph_compiler.proofs.ValidDetails.{same_is, same_itself}
-use Rattle.graph_compiler.proofs.ValidLists.{all_at, any_at, counted-below, at_place, placed}
+use Rattle.graph_compiler.proofs.ValidLists.{counted-below}
 
 -- two answers are one where each holds if the other does
 pub same_answers : (a b : Bool) → (a ≡ true → b ≡ true) → (b ≡ true → a ≡ true) → a ≡ b

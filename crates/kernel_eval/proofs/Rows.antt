@@ -7,7 +7,7 @@ use Rattle.std.proofs.lemmas.Simd.{map-map}
 use Rattle.uts_geom.specs.Counting.{length-counted}
 use Rattle.uts_geom.specs.Spans.{index, counted, from_to}
 use Rattle.uts_geom.specs.declared.index.Index.{Index}
-use Rattle.field_box.specs.ByPlace.{listed_by}
+use Rattle.uts_geom.specs.ByPlace.{listed_by}
 use Rattle.kernel_ast.specs.Value.{value_of}
 use Rattle.kernel_ast.specs.declared.expression.Expr.{Expr}
 use Rattle.kernel_rows.specs.Values.{environment_on, indexes_on, values_on}

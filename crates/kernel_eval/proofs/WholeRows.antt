@@ -5,7 +5,7 @@ use Rattle.std.proofs.lemmas.Int.{ints}
 use Rattle.std.proofs.lemmas.Simd.{map-map}
 use Rattle.uts_geom.specs.Spans.{counted, index}
 use Rattle.uts_geom.specs.declared.index.Index.{Index}
-use Rattle.field_box.specs.ByPlace.{get-by_place, length-by_place}
+use Rattle.uts_geom.specs.ByPlace.{get-by_place, length-by_place}
 use Rattle.field_box.specs.Fields.{along}
 use Rattle.ghost_gather.specs.Windows.{number_seen}
 use Rattle.kernel_ast.specs.declared.expression.How.{How}

@@ -9,6 +9,7 @@ use Rattle.std.proofs.lemmas.List.Sums.{prefix_len-le-length}
 use Rattle.uts_lex.specs.declared.token.Kind.TheVariants.{Word}
 use Rattle.uts_lex.specs.Lexemes.{Lexeme}
 use Rattle.uts_lex.specs.Names.{number_of, with_name}
+use Rattle.uts_lex.specs.NameNumbers.{number_below}
 use Rattle.kernel_ast.specs.Form.{are_leaves_in_form, is_fine, IsWithin, IsExpressionInForm, are_leaves_in_form-Literal, are_leaves_in_form-X, are_leaves_in_form-Y, are_leaves_in_form-Z, are_leaves_in_form-Level, are_leaves_in_form-Material, are_leaves_in_form-Step, are_leaves_in_form-Read, are_leaves_in_form-Number, are_leaves_in_form-Neg, are_leaves_in_form-Binary, are_leaves_in_form-Select}
 use Rattle.kernel_ast.specs.declared.expression.Op.{Op}
 use Rattle.kernel_ast.specs.declared.expression.Expr.{Expr}
@@ -20,26 +21,6 @@ use Rattle.kernel_parse.specs.Reading.{parsed, all_of}
 use Rattle.kernel_parse.specs.Source.{Extends}
 use Rattle.kernel_parse.specs.SourceLaws.{Extends_refl, Extends_trans, Extends_with_name, length_with_name}
 use Rattle.kernel_parse.proofs.Sound.{all_spelled}
-
-found_below : {X : Type 0} (p : X → Bool) (xs : List X) → list_any p xs ≡ true → prefix_len (λ x. not (p x)) xs < length xs
-found_below p [] e = absurd cc
-found_below p (x ∷ xs) e = by (p x) e (found_below p xs)
-  where
-    by : (b : Bool) → (b || list_any p xs) ≡ true → (list_any p xs ≡ true → prefix_len (λ x. not (p x)) xs < length xs)
-        → cond (not b) (1 + prefix_len (λ x. not (p x)) xs) 0 < suc (length xs)
-    by true e more = omega arith
-    by false e more = let h = more e in omega arith
-
--- a name's number is below how many names there are with it
-number_below : (names : Words) (name : List ℕ) → (number_of names name < length (with_name names name)) × (length names ≤ length (with_name names name))
-number_below names name = by (list_any (bytes_eq name) names) refl
-  where
-    by : (b : Bool) → list_any (bytes_eq name) names ≡ b
-        → (number_of names name < length (cond b names (names ++ name ∷ []))) × (length names ≤ length (cond b names (names ++ name ∷ [])))
-    by true e = (found_below (bytes_eq name) names e, omega arith)
-    by false e =
-        let within = prefix_len-le-length (λ (word : List ℕ). not (bytes_eq name word)) names in
-        (omega (arith, within, length-append names (name ∷ [])), omega (arith, length-append names (name ∷ [])))
 
 -- the leaves are in form over each number of names from so many on
 abbrev InForm : Words → Expr → Words → Type 0

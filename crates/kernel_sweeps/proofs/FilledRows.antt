@@ -9,7 +9,7 @@ use Rattle.std.proofs.lemmas.Simd.{map-map}
 use Rattle.uts_geom.specs.declared.index.Index.{Index}
 use Rattle.uts_geom.specs.declared.span.Span.{Span}
 use Rattle.uts_geom.specs.Spans.{index, counted, from_to, is_between, is_inside, row_indexes, rows_of, width_of}
-use Rattle.field_box.specs.ByPlace.{get-by_place}
+use Rattle.uts_geom.specs.ByPlace.{get-by_place}
 use Rattle.field_box.specs.Fields.{NumberedSpan, IsField, number_at}
 use Rattle.field_box.specs.WalkedRows.{is_in_row, gap_below, gap_reaches, rows_hold, walked_before}
 

@@ -13,6 +13,7 @@ use Rattle.uts_geom.specs.declared.centring.Centring.{Centring}
 use Rattle.uts_geom.specs.declared.centring.Centring.TheVariants.{Node}
 use Rattle.uts_geom.specs.declared.span.Span.{Span}
 use Rattle.problem_types.specs.Levels.{HasNearBounds, KeepsGridLimits, spaces_on}
+use Rattle.problem_types.specs.NearSpaces.{space_near}
 use Rattle.problem_types.specs.Regions.{end_of, space_of, spaces_of, indexes_of}
 use Rattle.problem_types.specs.declared.problem.BoxLine.{BoxLine}
 use Rattle.problem_types.specs.declared.problem.Level.{Level}
@@ -23,31 +24,13 @@ pub record IsSmallSpan (s : Span) : Type 0 where
   pub near : IsNearSpan s
   pub narrow : width_of s ≤ 4097
 
-low_near : (low : ℕ) → low ≤ 4096 → IsNearNumber (pos low)
-low_near low small = (omega (arith, ints), omega (arith, ints))
-
-end_near : (point : Bool) (high : ℕ) → high ≤ 4096 → IsNearNumber (end_of point high)
-end_near true high small = (omega (arith, ints), omega (arith, ints))
-end_near false high small = (omega (arith, ints), omega (arith, ints))
-
 short_row : (s : Span) (point : Bool) (low high : ℕ) → s.lo.x ≡ pos low → s.hi.x ≡ end_of point high → high ≤ 4096 → width_of s ≤ 4097
 short_row s true low high begins ends small = rw (begins, ends) (omega arith)
 short_row s false low high begins ends small = rw (begins, ends) (omega arith)
 
 space_small : (c : Centring) (b : BoxLine) → HasNearBounds b → IsSmallSpan (space_of c b)
 space_small c b near = record {
-  near = record {
-    lo = record {
-      x = low_near (slice_index b.lo 0) (near 0 (omega arith)).0;
-      y = low_near (slice_index b.lo 1) (near 1 (omega arith)).0;
-      z = low_near (slice_index b.lo 2) (near 2 (omega arith)).0;
-    };
-    hi = record {
-      x = end_near _ (slice_index b.hi 0) (near 0 (omega arith)).1;
-      y = end_near _ (slice_index b.hi 1) (near 1 (omega arith)).1;
-      z = end_near _ (slice_index b.hi 2) (near 2 (omega arith)).1;
-    };
-  };
+  near = space_near c b near;
   narrow = short_row (space_of c b) _ (slice_index b.lo 0) (slice_index b.hi 0) refl refl (near 0 (omega arith)).1;
 }
 

@@ -12,7 +12,7 @@ use Rattle.problem_printable.specs.Numbering.{statement_names, known_behind}
 use Rattle.problem_printable.specs.Printable.{AreInOrder}
 use Rattle.problem_printable.specs.Progress.{Mark, mark, reached, progress_behind, box_mark, require_mark, write_mark, level_marks, task_marks, grid_marks, closing_marks, timestep_marks, schedule_marks, problem_marks}
 use Rattle.problem_printable.specs.declared.progress.Progress.{Progress}
-use Rattle.problem_printable.proofs.Ascent.{increasing_where_some, some_where_increasing}
+use Rattle.problem_types.specs.Ascent.{increasing_where_some, some_where_increasing}
 use Rattle.problem_printable.specs.Known.{known_followed, known_broken}
 
 abbrev marked : Placed → Mark

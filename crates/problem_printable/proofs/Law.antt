@@ -16,7 +16,7 @@ use Rattle.problem_file.specs.declared.order.Place.{Place}
 use Rattle.problem_printable.specs.Laws.{SpelledCanBePrinted}
 use Rattle.problem_printable.specs.Numbering.{statement_names}
 use Rattle.problem_printable.specs.Printable.{IsSayable}
-use Rattle.problem_printable.proofs.Ascent.{ascent_followed, increasing_where_some}
+use Rattle.problem_types.specs.Ascent.{followed, increasing_where_some}
 use Rattle.problem_printable.specs.Known.{known_grows}
 use Rattle.problem_printable.proofs.Naming.{Grows, grows_none, grows_both, no_names}
 use Rattle.problem_printable.proofs.SpelledNames.{AreSpelled}
@@ -56,7 +56,7 @@ module _ (in_form : SpelledInForm) (longest : LongestAtFront) where
         last = suc lines;
         early = omega arith;
         ascending = ap (last_ascending 0) (lines_append ss (at (suc lines) s ∷ []))
-            ∙ (ascent_followed 0 (lines_of ss) (suc lines ∷ []) said.last said.ascending ∙ (rw below refl));
+            ∙ (followed 0 (lines_of ss) (suc lines ∷ []) said.last said.ascending ∙ (rw below refl));
         named = subst (λ (ns : List ℕ). Grows [] ns after) (sym (names_push ss (at (suc lines) s))) (grows_both [] names after (names_of ss) (statement_names s) said.named grown);
         sayable = λ known le. All-append (λ s. IsSayable known s.statement) ss (at (suc lines) s ∷ [])
             (said.sayable known (omega (arith, known_grows (length names) (statement_names s) (length after) grown.numbered)))

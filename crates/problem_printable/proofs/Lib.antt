@@ -6,7 +6,6 @@ pub mod SpelledNames
 pub mod SpelledNumbers
 pub mod Tokens
 pub mod Statements
-pub mod Ascent
 pub mod Law
 pub mod Steps
 pub mod Distinct

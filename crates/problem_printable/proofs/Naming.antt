@@ -10,6 +10,7 @@ use Rattle.std.proofs.lemmas.List.Folds.{list_any_at}
 use Rattle.std.proofs.lemmas.List.Quantifiers.{all_pairs_push}
 use Rattle.std.proofs.lemmas.Slice.Eq.{bytes_eq-Decides}
 use Rattle.uts_lex.specs.Names.{number_of, with_name}
+use Rattle.uts_lex.specs.NameNumbers.{found_below, found_nowhere}
 use Rattle.kernel_parse.specs.Grammar.{Words}
 use Rattle.problem_printable.specs.Numbering.{known_behind}
 use Rattle.problem_printable.specs.Printable.{IsName, AreNames}
@@ -32,24 +33,6 @@ grows_both names between after first second f g = record {
   numbered = known_followed (length names) first second (length between) f.numbered ∙ g.numbered;
   kept = λ h. g.kept (f.kept h);
 }
-
-found_below : {X : Type 0} (p : X → Bool) (xs : List X) → list_any p xs ≡ true → prefix_len (λ x. not (p x)) xs < length xs
-found_below p [] e = absurd cc
-found_below p (x ∷ xs) e = by (p x) e (found_below p xs)
-  where
-    by : (b : Bool) → (b || list_any p xs) ≡ true → (list_any p xs ≡ true → prefix_len (λ x. not (p x)) xs < length xs)
-        → cond (not b) (1 + prefix_len (λ x. not (p x)) xs) 0 < suc (length xs)
-    by true e more = omega arith
-    by false e more = let h = more e in omega arith
-
-found_nowhere : {X : Type 0} (p : X → Bool) (xs : List X) → list_any p xs ≡ false → prefix_len (λ x. not (p x)) xs ≡ length xs
-found_nowhere p [] e = refl
-found_nowhere p (x ∷ xs) e = by (p x) e (found_nowhere p xs)
-  where
-    by : (b : Bool) → (b || list_any p xs) ≡ false → (list_any p xs ≡ false → prefix_len (λ x. not (p x)) xs ≡ length xs)
-        → cond (not b) (1 + prefix_len (λ x. not (p x)) xs) 0 ≡ suc (length xs)
-    by true e more = absurd cc
-    by false e more = let h = more e in omega arith
 
 -- a known name, and the next one
 known_name : (known name : ℕ) → name < known → known_behind known (name ∷ []) ≡ Some known

@@ -3,3 +3,4 @@ pub mod Lists
 pub mod Regions
 pub mod Levels
 pub mod Ascent
+pub mod NearSpaces

@@ -13,12 +13,12 @@ use Rattle.uts_geom.specs.declared.centring.Axis.TheVariants.{X, Y, Z}
 use Rattle.uts_geom.specs.declared.centring.Centring.{Centring}
 use Rattle.uts_geom.specs.declared.index.Index.{Index}
 use Rattle.uts_geom.specs.declared.span.Span.{Span}
+use Rattle.uts_geom.specs.Places.{length-from_to}
 use Rattle.problem_types.specs.Levels.{IsProper, LiesIn, cells_of, spaces_on}
 use Rattle.problem_types.specs.Regions.{end_of, space_of}
 use Rattle.problem_types.specs.declared.problem.BoxLine.{BoxLine}
 use Rattle.problem_types.specs.declared.problem.Level.{Level}
 use Rattle.problem_types.specs.declared.problem.Problem.{Problem}
-use Rattle.field_box.specs.ByPlace.{length-from_to}
 use Rattle.patch_regions.specs.Regions.{owned_span, patch_at, reaching}
 use Rattle.task_check.specs.Bounds.{IsBoundedLevel}
 use Rattle.run_task.proofs.Offsets.{axes_of_inside, between, bounds_of, inside_on_axes}

@@ -11,30 +11,18 @@ use Rattle.std.proofs.lemmas.Option.{get_or_from_slice_get, slice_get-map, slice
 use Rattle.uts_geom.specs.Spans.{index, indexes_of, is_inside}
 use Rattle.uts_geom.specs.declared.index.Index.{Index}
 use Rattle.uts_geom.specs.declared.span.Span.{Span}
-use Rattle.field_box.specs.Fields.{IsField, NumberedSpan, is_same_index, number_at}
+use Rattle.uts_geom.specs.SameIndexes.{by_coordinates, is_same_index, same_index_decides}
+use Rattle.field_box.specs.Fields.{IsField, NumberedSpan, number_at}
 use Rattle.field_box.specs.declared.value.Value.TheVariants.{Grid, Number}
 use Rattle.slot_contents.specs.Contents.{field_content}
 use Rattle.slot_contents.specs.Values.{content_of_value}
 use Rattle.run_task.proofs.Lists.{found, finds, place_of}
-
-same_index : (i j : Index) → i.x ≡ j.x → i.y ≡ j.y → i.z ≡ j.z → i ≡ j
-same_index i j x y z = ap (λ (n : ℤ). index n i.y i.z) x ∙ ap (λ (n : ℤ). index j.x n i.z) y ∙ ap (λ (n : ℤ). index j.x j.y n) z
 
 same_span : (s u : Span) → s.lo ≡ u.lo → s.hi ≡ u.hi → s ≡ u
 same_span s u lo hi =
     let first : s ≡ record { lo = u.lo; hi = s.hi } = ap (λ (i : Index). let made : Span = record { lo = i; hi = s.hi } in made) lo in
     let second : record { lo = u.lo; hi = s.hi } ≡ u = ap (λ (i : Index). let made : Span = record { lo = u.lo; hi = i } in made) hi in
     first ∙ second
-
--- an index that is told to be the same is the same
-told_same : (i j : Index) → is_same_index i j ≡ true → i ≡ j
-told_same i j same =
-    let on_x = and_parts (int_eq i.x j.x) (int_eq i.y j.y && int_eq i.z j.z) same in
-    let on_y = and_parts (int_eq i.y j.y) (int_eq i.z j.z) on_x.1 in
-    same_index i j ((Decides-int_eq i.x j.x).0 on_x.0) ((Decides-int_eq i.y j.y).0 on_y.0) ((Decides-int_eq i.z j.z).0 on_y.1)
-
-itself : (i : Index) → is_same_index i i ≡ true
-itself i = and_from _ _ ((Decides-int_eq i.x i.x).1 refl) (and_from _ _ ((Decides-int_eq i.y i.y).1 refl) ((Decides-int_eq i.z i.z).1 refl))
 
 -- a field and a number as contents
 pub record IsOf (s : Span) (number : Index → ℤ) (f : NumberedSpan) : Type 0 where
@@ -44,8 +32,8 @@ pub record IsOf (s : Span) (number : Index → ℤ) (f : NumberedSpan) : Type 0 
 pub of_content : (s : Span) (number : Index → ℤ) (f : NumberedSpan) → field_content s number ≡ content_of_value (Grid f) → IsOf s number f
 of_content s number f same = record {
   span = same_span f.span s
-      (same_index f.span.lo s.lo (let e : f.span.lo.x ≡ s.lo.x = cc in e) (let e : f.span.lo.y ≡ s.lo.y = cc in e) (let e : f.span.lo.z ≡ s.lo.z = cc in e))
-      (same_index f.span.hi s.hi (let e : f.span.hi.x ≡ s.hi.x = cc in e) (let e : f.span.hi.y ≡ s.hi.y = cc in e) (let e : f.span.hi.z ≡ s.hi.z = cc in e));
+      (by_coordinates f.span.lo s.lo (let e : f.span.lo.x ≡ s.lo.x = cc in e) (let e : f.span.lo.y ≡ s.lo.y = cc in e) (let e : f.span.lo.z ≡ s.lo.z = cc in e))
+      (by_coordinates f.span.hi s.hi (let e : f.span.hi.x ≡ s.hi.x = cc in e) (let e : f.span.hi.y ≡ s.hi.y = cc in e) (let e : f.span.hi.z ≡ s.hi.z = cc in e));
   numbers = cc;
 }
 
@@ -64,9 +52,9 @@ module _ (hold : (s : Span) (i : Index) → Contains (indexes_of s) i ↔ IsTrue
       let test = is_same_index i in
       let n = position_or_len test (indexes_of s) in
       let place = place_of (indexes_of s) i ((hold s i).1 inside) in
-      let some = finds test (indexes_of s) place.0 i place.1 (itself i) in
+      let some = finds test (indexes_of s) place.0 i place.1 ((same_index_decides i i).1 refl) in
       let first = found test (indexes_of s) some.0 some.1 in
-      let same : i ≡ some.0 = told_same i some.0 first.2 in
+      let same : i ≡ some.0 = (same_index_decides i some.0).0 first.2 in
       let at : slice_get (indexes_of s) n ≡ Some some.0 = sym (find_at test (indexes_of s)) ∙ some.1 in
       let below : nat_lt n (length (indexes_of s)) ≡ true = lt-ltb n (length (indexes_of s)) (slice_get_within (indexes_of s) n some.0 at) in
       let stands : position test (indexes_of s) ≡ Some n = ap (λ (b : Bool). cond b (Some n) None) below in

@@ -24,8 +24,11 @@ use Rattle.problem_types.specs.declared.problem.Task.{Task}
 use Rattle.problem_types.specs.declared.problem.What.{What}
 use Rattle.problem_types.specs.declared.problem.What.TheVariants as what
 use Rattle.grid_levels.specs.Good.{divided}
-use Rattle.patch_regions.specs.Regions.{owned_span, patch_at, reaching}
-use Rattle.ghost_rules.specs.Windows.{along, layers_along, window_begin, window_end, window_of, AreFew, AreFewSeen}
+use Rattle.problem_types.specs.NearSpaces.{IsOnAxis, IsOnGridSpan, near_span}
+use Rattle.patch_regions.specs.Regions.{patch_at}
+use Rattle.patch_regions.specs.OnGrid.{near_patch, owned_near, reaching_on_grid}
+use Rattle.ghost_rules.specs.FewLayers.{few_along}
+use Rattle.ghost_rules.specs.Windows.{along, window_begin, window_end, window_of, AreFew, AreFewSeen}
 use Rattle.ghost_rules.specs.declared.along.Along.{Along}
 use Rattle.ghost_rules.specs.declared.along.Along.TheVariants.{Nothing, Intervals, Points, Own}
 use Rattle.ghost_rules.specs.declared.seen.Seen.{Seen}
@@ -33,81 +36,16 @@ use Rattle.ghost_rules.specs.declared.seen.Seen.TheVariants as seen
 use Rattle.task_check.specs.Plan.{refined, wanted_window, window_seen}
 use Rattle.task_check.specs.Supplies.{layers_of, seen_by_kind, seen_of}
 
--- a coordinate from 0 to 4,097
-abbrev IsOnGrid : ℤ → Type 0
-IsOnGrid n = (pos 0 ≤ℤ n) × (n ≤ℤ pos 4097)
-
-on_grid : (n : ℕ) → n ≤ 4096 → IsOnGrid (pos n)
-on_grid n small = (omega (arith, ints), omega (arith, ints))
-
-end_on_grid : (e : Bool) (high : ℕ) → high ≤ 4096 → IsOnGrid (end_of e high)
-end_on_grid true high small = (omega (arith, ints), omega (arith, ints))
-end_on_grid false high small = (omega (arith, ints), omega (arith, ints))
-
-grid_is_near : (n : ℤ) → IsOnGrid n → IsNearNumber n
-grid_is_near n on = let from = on.0 in let to = on.1 in (omega (arith, ints, from, to), omega (arith, ints, from, to))
-
--- the corners of a span are on the grid
-record AreOnGrid (s : Span) : Type 0 where
-  low_x : IsOnGrid s.lo.x
-  low_y : IsOnGrid s.lo.y
-  low_z : IsOnGrid s.lo.z
-  high_x : IsOnGrid s.hi.x
-  high_y : IsOnGrid s.hi.y
-  high_z : IsOnGrid s.hi.z
-
-near_on_grid : (s : Span) → AreOnGrid s → IsNearSpan s
-near_on_grid s on = record {
-  lo = record { x = grid_is_near s.lo.x on.low_x; y = grid_is_near s.lo.y on.low_y; z = grid_is_near s.lo.z on.low_z };
-  hi = record { x = grid_is_near s.hi.x on.high_x; y = grid_is_near s.hi.y on.high_y; z = grid_is_near s.hi.z on.high_z };
-}
-
--- ---- boxes, patches and what patches own
-
-module _ (b : BoxLine) (near : HasNearBounds b) where
-  reaching_on_grid : (x y z : Bool) → AreOnGrid (reaching b x y z)
-  reaching_on_grid x y z = record {
-    low_x = on_grid (slice_index b.lo 0) (near 0 (omega arith)).0;
-    low_y = on_grid (slice_index b.lo 1) (near 1 (omega arith)).0;
-    low_z = on_grid (slice_index b.lo 2) (near 2 (omega arith)).0;
-    high_x = end_on_grid x (slice_index b.hi 0) (near 0 (omega arith)).1;
-    high_y = end_on_grid y (slice_index b.hi 1) (near 1 (omega arith)).1;
-    high_z = end_on_grid z (slice_index b.hi 2) (near 2 (omega arith)).1;
-  }
-
-  pub space_near : (c : Centring) → IsNearSpan (space_of c b)
-  space_near c = near_on_grid (space_of c b) (reaching_on_grid (is_point_like c X) (is_point_like c Y) (is_point_like c Z))
-
-pub patch_near : (l : Level) (patch : ℕ) → KeepsGridLimits l → patch < length l.patches → HasNearBounds (patch_at l patch)
-patch_near l patch limits below = limits.patches patch (record { line = 0; lo = []; hi = [] }) below
-
-pub owned_near : (c : Centring) (l : Level) (patch : ℕ) → KeepsGridLimits l → patch < length l.patches → IsNearSpan (owned_span c l patch)
-owned_near c l patch limits below = near_on_grid (owned_span c l patch) (reaching_on_grid (patch_at l patch) (patch_near l patch limits below) _ _ _)
-
 -- ---- windows with layers
 
-few_layers : (k : GhostKind) (n : ℕ) (axis : Axis) → n ≤ 8 → AreFew (layers_along k n axis)
-few_layers kind.None n axis few = tt
-few_layers kind.Cells n axis few = few
-few_layers kind.Nodes n axis few = few
-few_layers kind.FaceX n X few = few
-few_layers kind.FaceX n Y few = few
-few_layers kind.FaceX n Z few = few
-few_layers kind.FaceY n X few = few
-few_layers kind.FaceY n Y few = few
-few_layers kind.FaceY n Z few = few
-few_layers kind.FaceZ n X few = few
-few_layers kind.FaceZ n Y few = few
-few_layers kind.FaceZ n Z few = few
-
-begins_near : (a : Along) (point : Bool) (n : ℤ) → AreFew a → IsOnGrid n → IsNearNumber (n +ℤ window_begin a point)
+begins_near : (a : Along) (point : Bool) (n : ℤ) → AreFew a → IsOnAxis n → IsNearNumber (n +ℤ window_begin a point)
 begins_near Nothing point n few on = let from = on.0 in let to = on.1 in (omega (arith, ints, from, to), omega (arith, ints, from, to))
 begins_near (Intervals k) false n few on = let from = on.0 in let to = on.1 in (omega (arith, ints, from, to), omega (arith, ints, from, to))
 begins_near (Intervals k) true n few on = let from = on.0 in let to = on.1 in (omega (arith, ints, from, to), omega (arith, ints, from, to))
 begins_near (Points k) point n few on = let from = on.0 in let to = on.1 in (omega (arith, ints, from, to), omega (arith, ints, from, to))
 begins_near Own point n few on = let from = on.0 in let to = on.1 in (omega (arith, ints, from, to), omega (arith, ints, from, to))
 
-ends_near : (a : Along) (point : Bool) (n : ℤ) → AreFew a → IsOnGrid n → IsNearNumber (n +ℤ window_end a point false)
+ends_near : (a : Along) (point : Bool) (n : ℤ) → AreFew a → IsOnAxis n → IsNearNumber (n +ℤ window_end a point false)
 ends_near Nothing false n few on = let from = on.0 in let to = on.1 in (omega (arith, ints, from, to), omega (arith, ints, from, to))
 ends_near Nothing true n few on = let from = on.0 in let to = on.1 in (omega (arith, ints, from, to), omega (arith, ints, from, to))
 ends_near (Intervals k) point n few on = let from = on.0 in let to = on.1 in (omega (arith, ints, from, to), omega (arith, ints, from, to))
@@ -116,17 +54,17 @@ ends_near (Points k) true n few on = let from = on.0 in let to = on.1 in (omega 
 ends_near Own true n few on = let from = on.0 in let to = on.1 in (omega (arith, ints, from, to), omega (arith, ints, from, to))
 ends_near Own false n few on = let from = on.0 in let to = on.1 in (omega (arith, ints, from, to), omega (arith, ints, from, to))
 
-window_near : (layers : Ghost) (c : Centring) (s : Span) → layers.n ≤ 8 → AreOnGrid s → IsNearSpan (window_of layers c s)
+window_near : (layers : Ghost) (c : Centring) (s : Span) → layers.n ≤ 8 → IsOnGridSpan s → IsNearSpan (window_of layers c s)
 window_near layers c s few on = record {
   lo = record {
-    x = begins_near (along layers X) (is_point_like c X) s.lo.x (few_layers layers.kind layers.n X few) on.low_x;
-    y = begins_near (along layers Y) (is_point_like c Y) s.lo.y (few_layers layers.kind layers.n Y few) on.low_y;
-    z = begins_near (along layers Z) (is_point_like c Z) s.lo.z (few_layers layers.kind layers.n Z few) on.low_z;
+    x = begins_near (along layers X) (is_point_like c X) s.lo.x (few_along layers.kind layers.n X few) on.lo.x;
+    y = begins_near (along layers Y) (is_point_like c Y) s.lo.y (few_along layers.kind layers.n Y few) on.lo.y;
+    z = begins_near (along layers Z) (is_point_like c Z) s.lo.z (few_along layers.kind layers.n Z few) on.lo.z;
   };
   hi = record {
-    x = ends_near (along layers X) (is_point_like c X) s.hi.x (few_layers layers.kind layers.n X few) on.high_x;
-    y = ends_near (along layers Y) (is_point_like c Y) s.hi.y (few_layers layers.kind layers.n Y few) on.high_y;
-    z = ends_near (along layers Z) (is_point_like c Z) s.hi.z (few_layers layers.kind layers.n Z few) on.high_z;
+    x = ends_near (along layers X) (is_point_like c X) s.hi.x (few_along layers.kind layers.n X few) on.hi.x;
+    y = ends_near (along layers Y) (is_point_like c Y) s.hi.y (few_along layers.kind layers.n Y few) on.hi.y;
+    z = ends_near (along layers Z) (is_point_like c Z) s.hi.z (few_along layers.kind layers.n Z few) on.hi.z;
   };
 }
 
@@ -136,23 +74,19 @@ window_near layers c s few on = record {
 abbrev pub IsRatio : ℕ → Type 0
 IsRatio ratio = (ratio ≡ 1) ⊎ ((ratio ≡ 2) ⊎ (ratio ≡ 4))
 
-divided_on_grid : (ratio : ℕ) (n : ℤ) → IsRatio ratio → IsOnGrid n → IsOnGrid (int_div_euclid n (pos ratio))
+divided_on_grid : (ratio : ℕ) (n : ℤ) → IsRatio ratio → IsOnAxis n → IsOnAxis (int_div_euclid n (pos ratio))
 divided_on_grid ratio (negsuc n) is on = let from = on.0 in absurd (omega (arith, ints, from))
 divided_on_grid ratio (pos n) (inl one) on = rw one (let to = on.1 in (omega (arith, ints, to), omega (arith, ints, to)))
 divided_on_grid ratio (pos n) (inr (inl two)) on = rw two (let to = on.1 in (omega (arith, ints, to), omega (arith, ints, to)))
 divided_on_grid ratio (pos n) (inr (inr four)) on = rw four (let to = on.1 in (omega (arith, ints, to), omega (arith, ints, to)))
 
-divided_are : (ratio : ℕ) (s : Span) → IsRatio ratio → AreOnGrid s → AreOnGrid (divided ratio s)
+divided_are : (ratio : ℕ) (s : Span) → IsRatio ratio → IsOnGridSpan s → IsOnGridSpan (divided ratio s)
 divided_are ratio s is on = record {
-  low_x = divided_on_grid ratio s.lo.x is on.low_x;
-  low_y = divided_on_grid ratio s.lo.y is on.low_y;
-  low_z = divided_on_grid ratio s.lo.z is on.low_z;
-  high_x = divided_on_grid ratio s.hi.x is on.high_x;
-  high_y = divided_on_grid ratio s.hi.y is on.high_y;
-  high_z = divided_on_grid ratio s.hi.z is on.high_z;
+  lo = record { x = divided_on_grid ratio s.lo.x is on.lo.x; y = divided_on_grid ratio s.lo.y is on.lo.y; z = divided_on_grid ratio s.lo.z is on.lo.z };
+  hi = record { x = divided_on_grid ratio s.hi.x is on.hi.x; y = divided_on_grid ratio s.hi.y is on.hi.y; z = divided_on_grid ratio s.hi.z is on.hi.z };
 }
 
-times_near : (ratio : ℕ) (n : ℤ) (point : Bool) → IsRatio ratio → IsOnGrid n → IsNearNumber (pos ratio *ℤ n +ℤ (if point then pos 1 else pos 0))
+times_near : (ratio : ℕ) (n : ℤ) (point : Bool) → IsRatio ratio → IsOnAxis n → IsNearNumber (pos ratio *ℤ n +ℤ (if point then pos 1 else pos 0))
 times_near ratio n true (inl one) on = rw one (let from = on.0 in let to = on.1 in (omega (arith, ints, from, to), omega (arith, ints, from, to)))
 times_near ratio n false (inl one) on = rw one (let from = on.0 in let to = on.1 in (omega (arith, ints, from, to), omega (arith, ints, from, to)))
 times_near ratio n true (inr (inl two)) on = rw two (let from = on.0 in let to = on.1 in (omega (arith, ints, from, to), omega (arith, ints, from, to)))
@@ -160,18 +94,18 @@ times_near ratio n false (inr (inl two)) on = rw two (let from = on.0 in let to 
 times_near ratio n true (inr (inr four)) on = rw four (let from = on.0 in let to = on.1 in (omega (arith, ints, from, to), omega (arith, ints, from, to)))
 times_near ratio n false (inr (inr four)) on = rw four (let from = on.0 in let to = on.1 in (omega (arith, ints, from, to), omega (arith, ints, from, to)))
 
-product_near : (ratio : ℕ) (n : ℤ) → IsRatio ratio → IsOnGrid n → IsNearNumber (pos ratio *ℤ n)
+product_near : (ratio : ℕ) (n : ℤ) → IsRatio ratio → IsOnAxis n → IsNearNumber (pos ratio *ℤ n)
 product_near ratio n (inl one) on = rw one (let from = on.0 in let to = on.1 in (omega (arith, ints, from, to), omega (arith, ints, from, to)))
 product_near ratio n (inr (inl two)) on = rw two (let from = on.0 in let to = on.1 in (omega (arith, ints, from, to), omega (arith, ints, from, to)))
 product_near ratio n (inr (inr four)) on = rw four (let from = on.0 in let to = on.1 in (omega (arith, ints, from, to), omega (arith, ints, from, to)))
 
-refined_near : (ratio : ℕ) (c : Centring) (s : Span) → IsRatio ratio → AreOnGrid s → IsNearSpan (refined c ratio s)
+refined_near : (ratio : ℕ) (c : Centring) (s : Span) → IsRatio ratio → IsOnGridSpan s → IsNearSpan (refined c ratio s)
 refined_near ratio c s is on = record {
-  lo = record { x = product_near ratio s.lo.x is on.low_x; y = product_near ratio s.lo.y is on.low_y; z = product_near ratio s.lo.z is on.low_z };
+  lo = record { x = product_near ratio s.lo.x is on.lo.x; y = product_near ratio s.lo.y is on.lo.y; z = product_near ratio s.lo.z is on.lo.z };
   hi = record {
-    x = times_near ratio s.hi.x (is_point_like c X) is on.high_x;
-    y = times_near ratio s.hi.y (is_point_like c Y) is on.high_y;
-    z = times_near ratio s.hi.z (is_point_like c Z) is on.high_z;
+    x = times_near ratio s.hi.x (is_point_like c X) is on.hi.x;
+    y = times_near ratio s.hi.y (is_point_like c Y) is on.hi.y;
+    z = times_near ratio s.hi.z (is_point_like c Z) is on.hi.z;
   };
 }
 
@@ -179,8 +113,8 @@ refined_near ratio c s is on = record {
 
 module _ (p : Problem) (t : Task) (at : Store) (level : ℕ) (l : Level) (patch : ℕ) (limits : KeepsGridLimits l) (below : patch < length l.patches)
     (coarse : IsRatio (ratio_of p level)) (fine : IsRatio (ratio_of p (level + 1))) where
-  cells_on_grid : AreOnGrid (cells_of (patch_at l patch))
-  cells_on_grid = reaching_on_grid (patch_at l patch) (patch_near l patch limits below) false false false
+  cells_on_grid : IsOnGridSpan (cells_of (patch_at l patch))
+  cells_on_grid = reaching_on_grid (patch_at l patch) false false false (near_patch l patch limits below)
 
   seen_near : (s : Seen) (c : Centring) → AreFewSeen s → IsNearSpan (window_seen s c l patch)
   seen_near (seen.Ghosted layers) c few = window_near layers c (cells_of (patch_at l patch)) few cells_on_grid
@@ -202,4 +136,4 @@ module _ (p : Problem) (t : Task) (at : Store) (level : ℕ) (l : Level) (patch 
       window_near layers (centring_of p var) (divided (ratio_of p level) (cells_of (patch_at l patch))) few
       (divided_are (ratio_of p level) (cells_of (patch_at l patch)) coarse cells_on_grid)
   wanted_near (what.Fine var) few = refined_near (ratio_of p (level + 1)) (centring_of p var) (cells_of (patch_at l patch)) fine cells_on_grid
-  wanted_near (what.Number name) few = near_on_grid (cells_of (patch_at l patch)) cells_on_grid
+  wanted_near (what.Number name) few = near_span (cells_of (patch_at l patch)) cells_on_grid

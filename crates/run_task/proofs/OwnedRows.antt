@@ -18,7 +18,7 @@ use Rattle.problem_types.specs.declared.problem.Problem.{Problem}
 use Rattle.kernel_rows.specs.Scratch.{scratch_of}
 use Rattle.patch_regions.specs.Regions.{box_of, owned_span, patch_at}
 use Rattle.slot_contents.specs.Contents.{owned_on}
-use Rattle.run_task.proofs.NearWindows.{patch_near}
+use Rattle.patch_regions.specs.OnGrid.{near_patch}
 
 short : (e : Bool) (low high : ℕ) → high ≤ 4096 → int_gap (pos low) (end_of e high) ≤ 4097
 short true low high near = omega (arith, ints)
@@ -27,7 +27,7 @@ short false low high near = omega (arith, ints)
 pub short_rows : (c : Centring) (l : Level) (patch : ℕ) → KeepsGridLimits l → patch < length l.patches → width_of (owned_span c l patch) ≤ 4097
 short_rows c l patch limits below =
     let q = patch_at l patch in
-    short _ (slice_index q.lo 0) (slice_index q.hi 0) (patch_near l patch limits below 0 (omega arith)).1
+    short _ (slice_index q.lo 0) (slice_index q.hi 0) (near_patch l patch limits below 0 (omega arith)).1
 
 longest : (point last : Bool) (low high : ℕ) → int_gap (pos low) (end_of (point && last) high) ≤ int_gap (pos low) (end_of last high)
 longest true last low high = omega arith

@@ -22,17 +22,15 @@ use Rattle.run_task.specs.Sites.{IsPlaced, IsSiteOf}
 use Rattle.run_task.specs.declared.job.StepJob.{StepJob}
 use Rattle.run_task.specs.declared.work.Site.{Site}
 use Rattle.run_task.proofs.FewIndexes.{box_at, few_owned}
-use Rattle.run_task.proofs.NearWindows.{owned_near, space_near, wanted_near}
+use Rattle.problem_types.specs.NearSpaces.{level_near}
+use Rattle.patch_regions.specs.OnGrid.{owned_near}
+use Rattle.run_task.proofs.NearWindows.{wanted_near}
 use Rattle.run_task.proofs.OwnedRows.{short_rows}
 use Rattle.run_task.proofs.Refinement.{any_ratio}
 use Rattle.run_task.proofs.TasksAtSites.{IsLaid, is_laid, level_bounded, task_bounded}
 
 pub space_is_near : (p : Problem) (level : ℕ) (l : Level) → IsBoundedLevel p level l → (c : Centring) (space : Span) → spaces_on c l ≡ space ∷ [] → IsNearSpan space
-space_is_near p level l bounded c space one =
-    let box = box_at p level l bounded in
-    let same : space_of c box.0 ≡ space = (let both : map (space_of c) (box.0 ∷ []) ≡ space ∷ [] = sym (ap (map (space_of c)) box.1.only) ∙ one in cc) in
-    let near : HasNearBounds box.0 = All-head HasNearBounds box.0 [] (subst (All HasNearBounds) box.1.only bounded.limits.boxes) in
-    subst IsNearSpan same (space_near box.0 near c)
+space_is_near p level l bounded c space one = level_near c l space bounded.limits one
 
 pub placed : (p : Problem) (site : Site) (l : Level) → IsLaid p site.level site.patch l → IsPlaced p site
 placed p site l laid = record {

@@ -9,6 +9,7 @@ use Rattle.std.proofs.lemmas.List.Elements.{All-contains, Contains-append_left, 
 use Rattle.uts_geom.specs.Spans.{is_inside}
 use Rattle.uts_geom.specs.declared.centring.Centring.{Centring}
 use Rattle.uts_geom.specs.declared.index.Index.{Index}
+use Rattle.uts_geom.specs.Lists.{any_at, contains_at, from_take}
 use Rattle.kernel_ast.specs.declared.expression.Store.{Store}
 use Rattle.kernel_ast.specs.declared.expression.Store.TheVariants as store
 use Rattle.problem_types.specs.Lists.{centring_of, computes, is_computes, is_of_field, is_reduces, reduction_write, runs_on, task_list}
@@ -33,7 +34,7 @@ use Rattle.slot_contents.specs.Contents.{owned_on}
 use Rattle.slot_contents.specs.Laws.{HasIndex, HasNumber, IsTaskOf, NumbersAreRead, RunsAt, WindowsAreCovered}
 use Rattle.slot_contents.proofs.Earlier.{computed_earlier, known_reduction, known_variable, reduced_earlier, requirement_bounded, runs_there, task_bounded}
 use Rattle.slot_contents.proofs.Lines.{IsLine, found_line, is_line}
-use Rattle.slot_contents.proofs.Listed.{IsLast, any_at, in_list, is_some-find, last_of, of_take, passing}
+use Rattle.slot_contents.proofs.Listed.{IsLast, is_some-find, last_of, passing}
 use Rattle.slot_contents.proofs.Owned.{nowhere}
 use Rattle.slot_contents.proofs.Slots.{in_old_numbers, in_old_variables, length-patches, new_stands, number_stands, old_stands, on_patch_stands, read_by, wanted_is_read, wants_number, wants_variable}
 
@@ -74,7 +75,7 @@ computes_field (write.Reduces c) is = absurd cc
 contained : (numbers : List ℕ) (n : ℕ) → list_any (λ m. m == n) numbers ≡ true → Contains numbers n
 contained numbers n some =
     let there = passing (λ m. m == n) numbers some in
-    in_list numbers there.place n (there.at ∙ ap Some (eqb-true there.item n there.passes))
+    contains_at numbers there.place n (there.at ∙ ap Some (eqb-true there.item n there.passes))
 
 module _ (tasks : List Task) (place name material level : ℕ) where
   abbrev writes_it : Task → Bool
@@ -106,7 +107,7 @@ module _ (tasks : List Task) (place name material level : ℕ) where
   of_last last =
       let writer = last.found.place in
       let t = last.found.item in
-      let there = of_take tasks place writer t last.found.at in
+      let there = from_take tasks place writer t last.found.at in
       let two = and_parts (runs_on t material level) (is_some (find is_it t.writes)) last.found.passes in
       let runs = and_parts (list_any (λ m. m == material) t.materials) (list_any (λ l. l == level) t.levels) two.0 in
       let line = found_line tasks (λ w. is_of_field w.kind) name writer t there.1 two.1 in
@@ -147,12 +148,12 @@ module _ (tasks : List Task) (place name material level : ℕ) where
 declared_variable : (p : Problem) (name : ℕ) → IsVariable p name → (v : Var) × Contains p.vars v × (v.name ≡ name)
 declared_variable p name known =
     let there = passing (λ (v : Var). v.name == name) p.vars (sym (is_some-find (λ (v : Var). v.name == name) p.vars) ∙ known) in
-    (there.item, in_list p.vars there.place there.item there.at, eqb-true there.item.name name there.passes)
+    (there.item, contains_at p.vars there.place there.item there.at, eqb-true there.item.name name there.passes)
 
 declared_reduction : (p : Problem) (name : ℕ) → IsReduction p name → (q : Reduction) × Contains p.reductions q × (q.name ≡ name)
 declared_reduction p name known =
     let there = passing (λ (q : Reduction). q.name == name) p.reductions (sym (is_some-find (λ (q : Reduction). q.name == name) p.reductions) ∙ known) in
-    (there.item, in_list p.reductions there.place there.item there.at, eqb-true there.item.name name there.passes)
+    (there.item, contains_at p.reductions there.place there.item there.at, eqb-true there.item.name name there.passes)
 
 -- ---- a requirement of a detailed task
 
@@ -238,7 +239,7 @@ module _ (p : Problem) (step task : ℕ) (t : Task) (level material patch : ℕ)
     new_number : r.store ≡ store.New → (s : Slot) × HasNumber p step task level material patch r s
     new_number new =
         let there = passing (λ u. is_some (reduction_write u name)) (take task tasks) (reduced_earlier p step task t here r r_there new number) in
-        let part = of_take tasks task there.place there.item there.at in
+        let part = from_take tasks task there.place there.item there.at in
         let l = found_line tasks (λ w. is_reduces w.kind) name there.place there.item part.1 there.passes in
         let s = Number there.place l.0 in (
           s,

@@ -5,6 +5,7 @@ use Rattle.std.specs.Prelude.{slice_get, Contains, ◌==◌}
 use Rattle.std.specs.List.{list_any}
 use Rattle.std.proofs.lemmas.Bool.{and_from, eq-eqb, true_from_ne_false}
 use Rattle.std.proofs.lemmas.List.Elements.{All-contains}
+use Rattle.uts_geom.specs.Lists.{contains_at, place_in}
 use Rattle.kernel_ast.specs.declared.expression.Store.{Store}
 use Rattle.kernel_ast.specs.declared.expression.Store.TheVariants as store
 use Rattle.problem_types.specs.Lists.{computes, runs_on, task_list}
@@ -22,7 +23,7 @@ use Rattle.task_check.specs.Lines.{FindsNothing}
 use Rattle.task_check.specs.Plan.{is_of_number}
 use Rattle.task_check.specs.declared.fault.FaultKind.TheVariants as kind
 use Rattle.slot_contents.specs.Laws.{IsTaskOf}
-use Rattle.slot_contents.proofs.Listed.{any_in, in_list, place_in}
+use Rattle.slot_contents.proofs.Listed.{any_in}
 
 -- the number of a step's list among the two of a problem
 abbrev pub list_of : ℕ → ℕ
@@ -96,7 +97,7 @@ tasks_bounded p (suc n) limits = limits.timestep
 
 pub task_bounded : (p : Problem) (step task : ℕ) (t : Task) → IsBounded p → IsTaskOf p step task t → IsBoundedTask p t
 task_bounded p step task t limits here =
-    All-contains (IsBoundedTask p) (task_list p step) t (tasks_bounded p step limits).tasks (in_list (task_list p step) task t here.stands)
+    All-contains (IsBoundedTask p) (task_list p step) t (tasks_bounded p step limits).tasks (contains_at (task_list p step) task t here.stands)
 
 pub requirement_bounded : (p : Problem) (t : Task) (r : Require) → IsBoundedTask p t → Contains t.requirements r → IsBoundedRequire p t r
 requirement_bounded p t r bounded r_there = All-contains (IsBoundedRequire p t) t.requirements r bounded.requirements r_there

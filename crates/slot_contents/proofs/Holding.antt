@@ -5,6 +5,7 @@ use Rattle.std.specs.List.{list_any}
 use Rattle.std.specs.Option.{is_some, option_map_or}
 use Rattle.std.proofs.lemmas.Bool.{and_parts, false_from_ne_true, not-true}
 use Rattle.uts_geom.specs.declared.index.Index.{Index}
+use Rattle.uts_geom.specs.Lists.{from_take, get-drop}
 use Rattle.kernel_ast.specs.declared.expression.Store.{Store}
 use Rattle.kernel_ast.specs.declared.expression.Store.TheVariants as store
 use Rattle.problem_types.specs.Lists.{is_of_field, is_reduces, outside_of, reduction_write, task_list}
@@ -18,7 +19,7 @@ use Rattle.slot_contents.specs.Laws.{IsTaskOf, NumbersHoldWhatStood, OutsideStan
 use Rattle.graph_compiler.specs.Slots.{AreOnce, SlotsStandOnce}
 use Rattle.slot_contents.proofs.Earlier.{list_of, not_first, of_two, reduced_earlier, same_list}
 use Rattle.slot_contents.proofs.Lines.{found_line, is_line, line_there, name_of_line}
-use Rattle.slot_contents.proofs.Listed.{get-drop, of_take, passing}
+use Rattle.slot_contents.proofs.Listed.{passing}
 use Rattle.slot_contents.proofs.Unwritten.{between, field_kept, outside_at, outside_at_end, reduction_kept}
 
 -- ---- variables
@@ -93,7 +94,7 @@ module _ (p : Problem) (step : ℕ) (once : AreOnce p (task_list p step)) (name 
     none_between : list_any reduces_it (between p step (writer + 1) task) ≡ false
     none_between = false_from_ne_true (list_any reduces_it (between p step (writer + 1) task)) (λ some.
         let there = passing reduces_it (between p step (writer + 1) task) some in
-        let part = of_take (task_list p step) task (writer + 1 + there.place) there.item (sym (get-drop (take task (task_list p step)) (writer + 1) there.place) ∙ there.at) in
+        let part = from_take (task_list p step) task (writer + 1 + there.place) there.item (sym (get-drop (take task (task_list p step)) (writer + 1) there.place) ∙ there.at) in
         let same : writer + 1 + there.place ≡ writer = one_reduces (writer + 1 + there.place) writer line there.item part.1 there.passes is in
         omega (arith, same))
 
@@ -101,7 +102,7 @@ module _ (p : Problem) (step : ℕ) (once : AreOnce p (task_list p step)) (name 
     below : list_any reduces_it (take task (task_list p step)) ≡ true → writer < task
     below earlier =
         let there = passing reduces_it (take task (task_list p step)) earlier in
-        let part = of_take (task_list p step) task there.place there.item there.at in
+        let part = from_take (task_list p step) task there.place there.item there.at in
         let same : there.place ≡ writer = one_reduces there.place writer line there.item part.1 there.passes is in
         omega (arith, same, part.0)
 

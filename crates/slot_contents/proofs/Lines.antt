@@ -3,11 +3,12 @@ use Rattle.std.proofs.Common.{◌≡◌, ◌∙◌, ℕ, List, Bool, true, false
 use Rattle.std.specs.Prelude.{slice_get, ◌==◌, ◌&&◌, find}
 use Rattle.std.specs.Option.{is_some, option_map_or}
 use Rattle.std.proofs.lemmas.Bool.{and_from, and_parts, eq-eqb}
+use Rattle.uts_geom.specs.Lists.{of_option}
 use Rattle.problem_types.specs.declared.problem.Task.{Task}
 use Rattle.problem_types.specs.declared.problem.Write.{Write}
 use Rattle.task_check.specs.Plan.{is_line_of, line_is}
 use Rattle.slot_contents.specs.Contents.{name_at}
-use Rattle.slot_contents.proofs.Listed.{find_only, is_some-find, of_option, passing}
+use Rattle.slot_contents.proofs.Listed.{find_only, is_some-find, passing}
 
 -- a line of this name, which passes the test, and its task
 pub record IsLine (tasks : List Task) (test : Write → Bool) (name task line : ℕ) : Type 0 where

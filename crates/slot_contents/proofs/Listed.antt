@@ -9,16 +9,10 @@ use Rattle.std.proofs.lemmas.List.Folds.{Any-from_list_any, list_any_at}
 use Rattle.std.proofs.lemmas.Option.{get_or_from_slice_get, slice_get-get_or, slice_get-map, slice_get_within}
 use Rattle.uts_geom.specs.Spans.{counted}
 use Rattle.uts_geom.specs.Counting.{counted-at}
-
--- a value in a list has a place
-pub place_in : {A : Type 0} (xs : List A) (x : A) → Contains xs x → (k : ℕ) × (slice_get xs k ≡ Some x)
-place_in xs x there = (there.0, slice_get-get_or xs there.0 x there.1 ∙ ap Some there.2)
-
-pub in_list : {A : Type 0} (xs : List A) (k : ℕ) (x : A) → slice_get xs k ≡ Some x → Contains xs x
-in_list xs k x at = (k, slice_get_within xs k x at, get_or_from_slice_get xs k x x at)
+use Rattle.uts_geom.specs.Lists.{any_at, contains_at, place_in}
 
 pub in_counted : (n k : ℕ) → k < n → Contains (counted 0 n) k
-in_counted n k below = in_list (counted 0 n) k k (counted-at n k below)
+in_counted n k below = contains_at (counted 0 n) k k (counted-at n k below)
 
 pub in_joined : {X A : Type 0} (g : X → List A) (xs : List X) (k : ℕ) (x : X) (a : A) → slice_get xs k ≡ Some x → Contains (g x) a → Contains (flat_map g xs) a
 in_joined g [] k x a at there = absurd cc
@@ -31,13 +25,13 @@ pub in_flat_map : {X A : Type 0} (g : X → List A) (xs : List X) (x : X) (a : A
 in_flat_map g xs x a x_there there = let at = place_in xs x x_there in in_joined g xs at.0 x a at.1 there
 
 pub in_map : {X A : Type 0} (f : X → A) (xs : List X) (x : X) → Contains xs x → Contains (map f xs) (f x)
-in_map f xs x there = let at = place_in xs x there in in_list (map f xs) at.0 (f x) (slice_get-map f xs at.0 ∙ ap (option_map f) at.1)
+in_map f xs x there = let at = place_in xs x there in contains_at (map f xs) at.0 (f x) (slice_get-map f xs at.0 ∙ ap (option_map f) at.1)
 
 kept_at : {A : Type 0} (test : A → Bool) (xs : List A) (k : ℕ) (x : A) → slice_get xs k ≡ Some x → test x ≡ true → Contains (filter test xs) x
 kept_at test [] k x at passes = absurd cc
 kept_at {A} test (y ∷ ys) zero x at passes =
     let same : y ≡ x = cc in
-    subst (λ (b : Bool). Contains (cond b (y ∷ filter test ys) (filter test ys)) x) (sym (ap test same ∙ passes)) (in_list (y ∷ filter test ys) 0 x (ap Some same))
+    subst (λ (b : Bool). Contains (cond b (y ∷ filter test ys) (filter test ys)) x) (sym (ap test same ∙ passes)) (contains_at (y ∷ filter test ys) 0 x (ap Some same))
 kept_at {A} test (y ∷ ys) (suc k) x at passes = by_test (test y) (kept_at test ys k x at passes)
   where
     by_test : (b : Bool) → Contains (filter test ys) x → Contains (cond b (y ∷ filter test ys) (filter test ys)) x
@@ -49,9 +43,6 @@ pub in_filter : {A : Type 0} (test : A → Bool) (xs : List A) (x : A) → Conta
 in_filter test xs x there passes = let at = place_in xs x there in kept_at test xs at.0 x at.1 passes
 
 -- ---- tests
-
-pub any_at : {A : Type 0} (test : A → Bool) (xs : List A) (k : ℕ) (x : A) → slice_get xs k ≡ Some x → test x ≡ true → list_any test xs ≡ true
-any_at test xs k x at passes = list_any_at test xs k x (slice_get_within xs k x at) (ap test (get_or_from_slice_get xs k x x at) ∙ passes)
 
 -- one that stands in the list passes
 pub any_in : {A : Type 0} (test : A → Bool) (xs : List A) (x : A) → Contains xs x → test x ≡ true → list_any test xs ≡ true
@@ -68,10 +59,6 @@ pub passing : {A : Type 0} (test : A → Bool) (xs : List A) → list_any test x
 passing test xs some =
     let there = Any-from_list_any test xs some in
     record { place = there.0; item = there.1; at = slice_get-get_or xs there.0 there.1 there.2 ∙ ap Some there.3; passes = there.4 }
-
-pub of_option : {A : Type 0} (test : A → Bool) (o : Option A) → option_map_or test o false ≡ true → (x : A) × (o ≡ Some x) × (test x ≡ true)
-of_option test None holds = absurd cc
-of_option test (Some x) holds = (x, refl, holds)
 
 -- something is found exactly where something passes
 pub is_some-find : {A : Type 0} (test : A → Bool) (xs : List A) → is_some (find test xs) ≡ list_any test xs
@@ -94,17 +81,6 @@ find_only {A} test (y ∷ ys) (suc k) x at passes only =
     ∙ find_only test ys k x at passes (λ j z z_at z_passes. let same = only (suc j) z z_at z_passes in omega (arith, same))
 
 -- ---- parts of lists
-
-pub of_take : {A : Type 0} (xs : List A) (n k : ℕ) (x : A) → slice_get (take n xs) k ≡ Some x → (k < n) × (slice_get xs k ≡ Some x)
-of_take xs zero k x at = absurd cc
-of_take [] (suc n) k x at = absurd cc
-of_take (y ∷ ys) (suc n) zero x at = (omega arith, at)
-of_take (y ∷ ys) (suc n) (suc k) x at = let rest = of_take ys n k x at in (omega (arith, rest.0), rest.1)
-
-pub get-drop : {A : Type 0} (xs : List A) (n k : ℕ) → slice_get (drop n xs) k ≡ slice_get xs (n + k)
-get-drop xs zero k = ap (slice_get xs) (let e : k ≡ 0 + k = omega arith in e)
-get-drop [] (suc n) k = refl
-get-drop (x ∷ xs) (suc n) k = get-drop xs n k ∙ ap (slice_get (x ∷ xs)) (let e : suc (n + k) ≡ suc n + k = omega arith in e)
 
 -- the last of a list that passes a test
 pub record IsLast {A : Type 0} (test : A → Bool) (xs : List A) : Type 0 where

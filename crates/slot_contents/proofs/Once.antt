@@ -6,7 +6,7 @@ use Rattle.std.proofs.lemmas.List.Elements.{Contains-append_cases, Contains-appe
 use Rattle.std.proofs.lemmas.List.Sorted.{Contains-permutation, IsPermutation-cons, IsPermutation-middle, IsPermutation-refl, IsPermutation-sym, IsPermutation-trans}
 use Rattle.uts_geom.specs.Spans.{counted}
 use Rattle.uts_geom.specs.Counting.{at-counted}
-use Rattle.slot_contents.proofs.Listed.{in_list, place_in}
+use Rattle.uts_geom.specs.Lists.{contains_at, place_in}
 
 -- ---- members
 
@@ -15,7 +15,7 @@ of_single x y (zero, below, is) = is
 of_single x y (suc k, below, is) = absurd (let less : suc k < 1 = below in omega (arith, less))
 
 pub at_head : {A : Type 0} (x : A) (xs : List A) → Contains (x ∷ xs) x
-at_head x xs = in_list (x ∷ xs) 0 x refl
+at_head x xs = contains_at (x ∷ xs) 0 x refl
 
 pub in_tail : {A : Type 0} (x : A) (xs : List A) (y : A) → Contains xs y → Contains (x ∷ xs) y
 in_tail x xs y there = Contains-append_right (x ∷ []) xs y there

@@ -10,6 +10,7 @@ use Rattle.uts_geom.specs.Counting.{length-counted}
 use Rattle.uts_geom.specs.declared.centring.Centring.{Centring}
 use Rattle.uts_geom.specs.declared.index.Index.{Index}
 use Rattle.uts_geom.specs.declared.span.Span.{Span}
+use Rattle.uts_geom.specs.Lists.{contains_at}
 use Rattle.problem_types.specs.Levels.{IsTiled, is_on_level, spaces_on}
 use Rattle.problem_types.specs.Regions.{indexes_of, is_in_space, space_of}
 use Rattle.problem_types.specs.declared.problem.BoxLine.{BoxLine}
@@ -20,7 +21,7 @@ use Rattle.patch_regions.specs.Regions.{owned_span}
 use Rattle.task_check.specs.Bounds.{IsBounded}
 use Rattle.task_check.specs.Plan.{patches_of}
 use Rattle.slot_contents.specs.Contents.{owned_on}
-use Rattle.slot_contents.proofs.Listed.{any_in, in_counted, in_flat_map, in_list, passing}
+use Rattle.slot_contents.proofs.Listed.{any_in, in_counted, in_flat_map, passing}
 use Rattle.slot_contents.proofs.Once.{IsOnce, IsOnce-counted, IsOnce-flat_map, IsOnce-from_pairs, of_counted, of_flat_map, same_members}
 
 -- what a patch of no level owns
@@ -67,7 +68,7 @@ module _ (holds : (s : Span) (i : Index) → Contains (indexes_of_span s) i ↔ 
         let patch = of_flat_map (λ patch. indexes_of_span (owned_span c l patch)) (counted 0 (length l.patches)) i there in
         let within : is_on_level c l i ≡ true = (tile l c i tiled one_box).0.1 (patch.0, (of_counted (length l.patches) patch.0 patch.1, (holds (owned_span c l patch.0) i).0 patch.2)) in
         let space = passing (λ s. is_inside s i) (spaces_on c l) within in
-        in_flat_map indexes_of_span (spaces_on c l) space.item i (in_list (spaces_on c l) space.place space.item space.at) ((holds space.item i).1 space.passes)
+        in_flat_map indexes_of_span (spaces_on c l) space.item i (contains_at (spaces_on c l) space.place space.item space.at) ((holds space.item i).1 space.passes)
 
     to_patches : (i : Index) → Contains on_level i → Contains owned_by_patch i
     to_patches i there =

@@ -8,6 +8,7 @@ use Rattle.std.proofs.lemmas.List.Elements.{Contains-append_left, Contains-appen
 use Rattle.std.proofs.lemmas.Option.{slice_get_within}
 use Rattle.uts_geom.specs.Spans.{counted}
 use Rattle.uts_geom.specs.Counting.{length-counted}
+use Rattle.uts_geom.specs.Lists.{contains_at}
 use Rattle.problem_types.specs.Lists.{is_of_field, is_reduces}
 use Rattle.problem_types.specs.declared.problem.Level.{Level}
 use Rattle.problem_types.specs.declared.problem.Problem.{Problem}
@@ -20,7 +21,7 @@ use Rattle.problem_types.specs.declared.problem.WriteKind.{WriteKind}
 use Rattle.problem_types.specs.declared.problem.WriteKind.TheVariants as write
 use Rattle.task_rules.specs.Lines.{wanted_level, wanted_name}
 use Rattle.task_check.specs.Plan.{Detail, OnPatch, Combining, Slot, Old, OldNumber, New, Number, combining, details_of, has_number, has_variable, is_in_window, is_of_number, is_read, line_is, old_numbers, old_variables, on_patches, patch_of, patches_of, reads, slot_written, slots_of, wants, written_by}
-use Rattle.slot_contents.proofs.Listed.{any_in, in_counted, in_filter, in_flat_map, in_list, in_map}
+use Rattle.slot_contents.proofs.Listed.{any_in, in_counted, in_filter, in_flat_map, in_map}
 
 -- the patches of a level by their numbers
 module _ (p : Problem) (level : ℕ) where
@@ -101,7 +102,7 @@ module _ (p : Problem) (tasks : List Task) (task : ℕ) (t : Task) (at : slice_g
         (subst (λ (o : Option Task). Contains (flat_map (λ k. option_map_or (λ u. slots_in u k) o []) (counted 0 (option_map_or (λ u. length u.writes) o 0))) (New task line level material patch)) (sym at)
         (in_flat_map (slots_in t) (counted 0 (length t.writes)) line (New task line level material patch) (in_counted (length t.writes) line (slice_get_within t.writes line w line_at))
         (subst (λ (o : Option Write). Contains (option_map_or (λ v. slot_written v.kind task line level material patch ∷ []) o []) (New task line level material patch)) (sym line_at)
-        (in_list (slot_written w.kind task line level material patch ∷ []) 0 (New task line level material patch) (ap Some (field_slot w.kind task line level material patch of_field))))))
+        (contains_at (slot_written w.kind task line level material patch ∷ []) 0 (New task line level material patch) (ap Some (field_slot w.kind task line level material patch of_field))))))
 
   -- the slot of a line that reduces
   pub number_stands : (line : ℕ) (w : Write) → slice_get t.writes line ≡ Some w → is_reduces w.kind ≡ true → Contains (slots_of p tasks) (Number task line)
@@ -110,7 +111,7 @@ module _ (p : Problem) (tasks : List Task) (task : ℕ) (t : Task) (at : slice_g
       (in_map (Combining task) (filter (line_is t.writes (λ v. is_reduces v.kind)) (counted 0 (length t.writes))) line
       (in_filter (line_is t.writes (λ v. is_reduces v.kind)) (counted 0 (length t.writes)) line (in_counted (length t.writes) line (slice_get_within t.writes line w line_at))
       (ap (λ (o : Option Write). option_map_or (λ v. is_reduces v.kind) o false) line_at ∙ reduces)))))
-      (in_list (Number task line ∷ []) 0 (Number task line) refl)
+      (contains_at (Number task line ∷ []) 0 (Number task line) refl)
 
 -- ---- what a detailed task reads
 

@@ -7,6 +7,7 @@ use Rattle.std.proofs.lemmas.List.{length-append, length-map}
 use Rattle.std.proofs.lemmas.List.Sums.{prefix_len-le-length}
 use Rattle.uts_lex.specs.Lexemes.{Lexeme}
 use Rattle.uts_lex.specs.Names.{number_of, with_name}
+use Rattle.uts_lex.specs.NameNumbers.{number_below}
 use Rattle.kernel_ast.specs.declared.expression.Expr.{Expr}
 use Rattle.kernel_ast.specs.Form.{IsExpressionInForm}
 use Rattle.kernel_parse.specs.Signs.{sign, number, word}
@@ -91,27 +92,8 @@ abbrev pub SpelledInForm : Type 0
 SpelledInForm = (tokens : List Lexeme) (names after : Words) (e : Expr) (known : ℕ)
     → SpellsExpression tokens names e after → length after ≤ known → IsExpressionInForm known e
 
-found_below : {X : Type 0} (p : X → Bool) (xs : List X) → list_any p xs ≡ true → prefix_len (λ x. not (p x)) xs < length xs
-found_below p [] e = absurd cc
-found_below p (x ∷ xs) e = by (p x) e (found_below p xs)
-  where
-    by : (b : Bool) → (b || list_any p xs) ≡ true → (list_any p xs ≡ true → prefix_len (λ x. not (p x)) xs < length xs)
-        → cond (not b) (1 + prefix_len (λ x. not (p x)) xs) 0 < suc (length xs)
-    by true e more = omega arith
-    by false e more = let h = more e in omega arith
-
--- a name's number is below how many names there are with it
-number_below : (names : Words) (name : List ℕ) → number_of names name < length (with_name names name)
-number_below names name = by (list_any (bytes_eq name) names) refl
-  where
-    by : (b : Bool) → list_any (bytes_eq name) names ≡ b → number_of names name < length (cond b names (names ++ name ∷ []))
-    by true e = found_below (bytes_eq name) names e
-    by false e =
-        let within = prefix_len-le-length (λ (word : List ℕ). not (bytes_eq name word)) names in
-        omega (arith, within, length-append names (name ∷ []))
-
 below : (names : Words) (name : List ℕ) (known : ℕ) → length (with_name names name) ≤ known → number_of names name < known
-below names name known le = let h = number_below names name in omega arith
+below names name known le = let h = (number_below names name).0 in omega arith
 
 ghosts_number : (n : ℕ) (kind : GhostKind) (at : Lexeme) → ghosts_of at ≡ Some kind → 1 ≤ n → IsLayerNumber n kind
 ghosts_number n kind at is some = meaning_case Word (λ (t : Lexeme) (k : GhostKind). IsLayerNumber n k) ghosts_words at kind is (some, (some, (some, (some, (some, tt)))))

@@ -7,6 +7,7 @@ use Rattle.std.proofs.lemmas.Bool.Decides.{nat_tests}
 use Rattle.std.proofs.lemmas.List.{append-nil}
 use Rattle.std.proofs.lemmas.List.Elements.{All-tail, All-cons}
 use native.Mathlib.Numerals.{unary_clauses}
+use Rattle.problem_types.specs.Ascent.{increasing_from, rest_increases}
 use Rattle.uts_lex.specs.Lexemes.{Lexeme}
 use Rattle.kernel_parse.specs.Signs.{number}
 use Rattle.kernel_parse.specs.Numbers.{is_number-decimal, digits_value-decimal}
@@ -16,14 +17,6 @@ use Rattle.statement_parse.specs.Grammar.{Fits, AreNumbers}
 use Rattle.statement_parse.specs.Reading.{numbers_from, ascends_from, ascends, is_list, list_at}
 
 -- ---- the test
-
-increasing_from : (a x : ℕ) (xs : List ℕ) → a < x → IsStrictlyIncreasing (x ∷ xs) → IsStrictlyIncreasing (a ∷ x ∷ xs)
-increasing_from a x xs first rest zero within = first
-increasing_from a x xs first rest (suc k) within =
-    simp unary_clauses (simp unary_clauses at (rest k (omega (arith, within))))
-
-rest_increases : (a x : ℕ) (xs : List ℕ) → IsStrictlyIncreasing (a ∷ x ∷ xs) → IsStrictlyIncreasing (x ∷ xs)
-rest_increases a x xs h k within = simp unary_clauses (simp unary_clauses at (h (suc k) (omega (arith, within))))
 
 ascent_true : (a : ℕ) (xs : List ℕ) → ascends_from a xs ≡ true → IsStrictlyIncreasing (a ∷ xs)
 ascent_true a [] e = λ k within. absurd (omega (arith, within))

@@ -7,6 +7,7 @@ use Rattle.std.proofs.lemmas.List.Elements.{All-contains}
 use Rattle.std.proofs.lemmas.Option.{slice_get_within, get_or_from_slice_get}
 use Rattle.std.proofs.lemmas.Map.Keys.{sorted_from_strictly_increasing}
 use Rattle.std.proofs.lemmas.Map.Views.{length-le_from_below}
+use Rattle.uts_geom.specs.Lists.{all_at, not_above, placed}
 use Rattle.problem_types.specs.Form.{IsProblemInForm, IsTaskInForm, IsLevelInForm}
 use Rattle.problem_types.specs.Levels.{HasNearBounds, KeepsGridLimits}
 use Rattle.problem_types.specs.Lists.{task_list}
@@ -26,13 +27,7 @@ use Rattle.task_check.specs.Faults.{of_ghost, of_materials, of_level, of_variabl
 use Rattle.task_check.specs.Places.{IsTaskAt, IsRequireAt}
 use Rattle.task_check.specs.First.{IsFaultless}
 
--- what is not above, not from a number up and not untrue
-pub not_above : (n m : ℕ) → (m < n → ⊥) → n ≤ m
-not_above n m none = by_order (cases_lt m n) where
-  by_order : (m < n) ⊎ (n ≤ m) → n ≤ m
-  by_order (inl above) = absurd (none above)
-  by_order (inr within) = within
-
+-- what is not from a number up and not untrue
 pub not_from : (n m : ℕ) → (m ≤ n → ⊥) → n < m
 not_from n m none = by_order (cases_lt n m) where
   by_order : (n < m) ⊎ (m ≤ n) → n < m
@@ -42,16 +37,6 @@ not_from n m none = by_order (cases_lt n m) where
 pub not_not_true : (b : Bool) → ((IsTrue b → ⊥) → ⊥) → IsTrue b
 not_not_true true not_not = refl
 not_not_true false not_not = absurd (not_not (λ t. absurd cc))
-
--- the value at a place of a list
-pub placed : {A : Type 0} (xs : List A) (n : ℕ) → n < length xs → (x : A) × (slice_get xs n ≡ Some x)
-placed [] n below = absurd (omega arith)
-placed (x ∷ xs) zero below = (x, refl)
-placed (x ∷ xs) (suc n) below = placed xs n (omega arith)
-
--- what holds of each value of a list holds of the one at a place
-pub all_at : {A : Type 0} (P : A → Type 0) (xs : List A) (n : ℕ) (x : A) → slice_get xs n ≡ Some x → All P xs → P x
-all_at P xs n x at each = subst P (get_or_from_slice_get xs n x x at) (each n x (slice_get_within xs n x at))
 
 -- what holds where another thing fails holds of each value, where the other holds of none
 pub all_unless : {A : Type 0} (P Q : A → Type 0) → ((x : A) → (Q x → ⊥) → P x) → (xs : List A) → (Any Q xs → ⊥) → All P xs

@@ -8,35 +8,13 @@ use Rattle.std.proofs.lemmas.Bool.{cases_order, eqb-true, eq-eqb}
 use Rattle.std.proofs.lemmas.Option.{slice_get_within, get_or_from_slice_get}
 use Rattle.uts_geom.specs.Spans.{counted}
 use Rattle.uts_geom.specs.Counting.{at-counted, counted-at}
-use Rattle.task_check.proofs.Sums.{from_place, count-one}
-
-pub get-take : {A : Type 0} (xs : List A) (n k : ℕ) → k < n → slice_get (take n xs) k ≡ slice_get xs k
-get-take xs zero k below = absurd (omega arith)
-get-take [] (suc n) k below = refl
-get-take (x ∷ xs) (suc n) zero below = refl
-get-take (x ∷ xs) (suc n) (suc k) below = get-take xs n k (omega arith)
-
--- what stands in a front stands before its end
-pub from_take : {A : Type 0} (xs : List A) (n k : ℕ) (x : A) → slice_get (take n xs) k ≡ Some x → (k < n) × (slice_get xs k ≡ Some x)
-from_take xs zero k x at = absurd cc
-from_take [] (suc n) k x at = absurd cc
-from_take (y ∷ ys) (suc n) zero x at = (omega arith, at)
-from_take (y ∷ ys) (suc n) (suc k) x at = let rest = from_take ys n k x at in (omega (arith, rest.0), rest.1)
-
-pub get-drop : {A : Type 0} (xs : List A) (n k : ℕ) → slice_get (drop n xs) k ≡ slice_get xs (n + k)
-get-drop xs zero k = ap (slice_get xs) (let e : k ≡ 0 + k = omega arith in e)
-get-drop [] (suc n) k = refl
-get-drop (x ∷ xs) (suc n) k = get-drop xs n k ∙ ap (slice_get (x ∷ xs)) (let e : suc (n + k) ≡ suc n + k = omega arith in e)
-
-pub any_at : {A : Type 0} (P : A → Type 0) (xs : List A) (k : ℕ) (x : A) → slice_get xs k ≡ Some x → P x → Any P xs
-any_at P xs k x at holds = (k, x, slice_get_within xs k x at, get_or_from_slice_get xs k x x at, holds)
+use Rattle.uts_geom.specs.Lists.{get-drop, get-take, any_at}
+use Rattle.task_check.proofs.Sums.{count-one}
 
 -- what stands before a place
 pub any_before : {A : Type 0} (P : A → Type 0) (xs : List A) (n k : ℕ) (x : A) → k < n → slice_get xs k ≡ Some x → P x → Any P (take n xs)
-any_before P xs n k x before at holds = any_at P (take n xs) k x (get-take xs n k before ∙ at) holds
-
-pub contains_at : {A : Type 0} (xs : List A) (k : ℕ) (x : A) → slice_get xs k ≡ Some x → Contains xs x
-contains_at xs k x at = (k, slice_get_within xs k x at, get_or_from_slice_get xs k x x at)
+any_before P xs n k x before at holds =
+    let there = get-take xs n k before ∙ at in (k, x, slice_get_within (take n xs) k x there, get_or_from_slice_get (take n xs) k x x there, holds)
 
 -- what stands at no two places stands at one
 pub one_by_order : (Q : ℕ → Type 0) → ((i j : ℕ) → i < j → Q i → Q j → ⊥) → (i j : ℕ) → Q i → Q j → i ≡ j
@@ -83,26 +61,6 @@ pub count-counted : (n k : ℕ) → k < n → count_by (λ j. j == k) (counted 0
 count-counted n k below = count-one (λ j. j == k) (counted 0 n) k k (counted-at n k below) (eq-eqb k k refl)
     (λ j y there same. let at = at-counted n j y there in let e = eqb-true y k same in omega (arith, at.0, e))
 
--- one of the values is found
-pub found_at : {A : Type 0} (p : A → Bool) (xs : List A) (k : ℕ) (x : A) → slice_get xs k ≡ Some x → p x ≡ true → is_some (find p xs) ≡ true
-found_at p [] k x at passes = absurd cc
-found_at p (y ∷ ys) zero x at passes = let same : y ≡ x = cc in rw (same, passes) refl
-found_at {A} p (y ∷ ys) (suc k) x at passes = by_test (p y) (found_at p ys k x at passes)
-  where
-    by_test : (b : Bool) → is_some (find p ys) ≡ true → is_some (cond b (Some y) (find p ys)) ≡ true
-    by_test true rest = refl
-    by_test false rest = rest
-
-pub place_of_found : {A : Type 0} (p : A → Bool) (xs : List A) → is_some (find p xs) ≡ true → (k : ℕ) × (x : A) × (slice_get xs k ≡ Some x) × (p x ≡ true)
-place_of_found p [] some = absurd cc
-place_of_found {A} p (y ∷ ys) some = by_test (p y) refl some (place_of_found p ys)
-  where
-    by_test : (b : Bool) → p y ≡ b → is_some (cond b (Some y) (find p ys)) ≡ true →
-        (is_some (find p ys) ≡ true → (k : ℕ) × (x : A) × (slice_get ys k ≡ Some x) × (p x ≡ true)) →
-        (k : ℕ) × (x : A) × (slice_get (y ∷ ys) k ≡ Some x) × (p x ≡ true)
-    by_test true is some rest = (0, y, refl, is)
-    by_test false is some rest = let there = rest some in (suc there.0, there.1, there.2, there.3)
-
 -- The last value that passes.
 pub record IsLast {A : Type 0} (p : A → Bool) (xs : List A) (k : ℕ) (x : A) : Type 0 where
   pub stands : slice_get xs k ≡ Some x
@@ -137,5 +95,5 @@ pub none_later : {A : Type 0} (p : A → Bool) (xs : List A) (k j : ℕ) (x : A)
 none_later p xs k j x none after at passes =
     let gap = gap_of k j after in
     let e : k + 1 + gap.0 ≡ j = omega (arith, gap.1) in
-    let there = from_place p (drop (k + 1) xs) gap.0 x (get-drop xs (k + 1) gap.0 ∙ ap (slice_get xs) e ∙ at) passes in
+    let there = any_at p (drop (k + 1) xs) gap.0 x (get-drop xs (k + 1) gap.0 ∙ ap (slice_get xs) e ∙ at) passes in
     cc

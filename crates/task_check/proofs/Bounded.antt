@@ -3,6 +3,7 @@ use Rattle.std.proofs.Common.{◌≡◌, ◌<◌, ◌⊎◌, inl, inr, ℕ, List
 use Rattle.std.specs.Prelude.{All, slice_get, length}
 use Rattle.std.proofs.lemmas.List.Elements.{All-contains}
 use Rattle.std.proofs.lemmas.Option.{slice_get-get_or}
+use Rattle.uts_geom.specs.Lists.{not_above}
 use Rattle.problem_types.specs.Form.{IsProblemInForm}
 use Rattle.problem_types.specs.Lists.{task_list}
 use Rattle.problem_types.specs.declared.problem.Problem.{Problem}
@@ -19,7 +20,7 @@ use Rattle.task_check.specs.Laws.{AcceptedProblemsAreBounded}
 use Rattle.task_check.specs.Lines.{cell_count}
 use Rattle.task_check.specs.Places.{IsTaskAt, IsRequireAt}
 use Rattle.task_check.specs.Supplies.{IsAllSupplied}
-use Rattle.task_check.proofs.Accepted.{not_above, few_ghost_layers, few_materials, few_levels, few_variables, few_reductions, few_tasks, few_lines, few_layers, is_known, none_missing, wanted_below, keeps_grid_limits, levels_below, materials_below}
+use Rattle.task_check.proofs.Accepted.{few_ghost_layers, few_materials, few_levels, few_variables, few_reductions, few_tasks, few_lines, few_layers, is_known, none_missing, wanted_below, keeps_grid_limits, levels_below, materials_below}
 use Rattle.task_check.proofs.Goodness.{is_good}
 use Rattle.task_check.proofs.Judging.{Judged, either}
 use Rattle.task_check.proofs.JudgedNames.{names_known, variable, reduction}

@@ -10,6 +10,7 @@ use Rattle.uts_geom.specs.declared.index.Index.{Index}
 use Rattle.uts_geom.specs.declared.span.Span.{Span}
 use Rattle.uts_geom.specs.declared.centring.Centring.TheVariants.{Cell}
 use Rattle.uts_geom.specs.Counting.{at-counted}
+use Rattle.uts_geom.specs.Lists.{at_place}
 use Rattle.problem_types.specs.Levels.{cells_of, IsProper, IsTiled, LiesIn}
 use Rattle.problem_types.specs.Regions.{space_of}
 use Rattle.problem_types.specs.declared.problem.BoxLine.{BoxLine}
@@ -18,7 +19,6 @@ use Rattle.patch_regions.specs.Laws.{SpansMeetInIndexes}
 use Rattle.patch_regions.specs.Regions.{do_meet, patch_at}
 use Rattle.task_check.proofs.Spreads.{IsSpread}
 use Rattle.task_check.proofs.Tests.{any-counted_at}
-use Rattle.task_check.proofs.Sums.{at_place}
 
 -- an index lies in a span, axis by axis
 record LiesInside (s : Span) (i : Index) : Type 0 where

@@ -5,7 +5,7 @@ use Rattle.std.specs.List.{list_any}
 use Rattle.std.proofs.lemmas.List.{take_all}
 use Rattle.std.proofs.lemmas.List.Folds.{list_any_more}
 use Rattle.std.proofs.lemmas.Option.{slice_get-get_or}
-use Rattle.task_check.proofs.Sums.{from_place}
+use Rattle.uts_geom.specs.Lists.{any_at}
 
 -- Over a list, of which the loop has another name.
 module _ {X : Type 0} (p : X → Bool) (xs ys : List X) (same : ys ≡ xs) (i : ℕ) where
@@ -19,7 +19,7 @@ module _ {X : Type 0} (p : X → Bool) (xs ys : List X) (same : ys ≡ xs) (i : 
   found_here d below here =
       let below_xs : i < length xs = subst (λ (zs : List X). i < length zs) same below in
       let passes : p (get_or xs i d) ≡ true = subst (λ (zs : List X). p (get_or zs i d) ≡ true) same here in
-      sym (from_place p xs i (get_or xs i d) (slice_get-get_or xs i d below_xs) passes)
+      sym (any_at p xs i (get_or xs i d) (slice_get-get_or xs i d below_xs) passes)
 
   pub none_found : length ys ≤ i → list_any p (take i xs) ≡ false → false ≡ list_any p xs
   none_found end none =

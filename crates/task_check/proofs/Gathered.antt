@@ -34,7 +34,8 @@ use Rattle.task_check.specs.Sizes.{IsTask, part_count, reduces_count, gathered_o
 use Rattle.task_check.proofs.Accepted.{task_in_form, few_layers, levels_below, wanted_below}
 use Rattle.task_check.proofs.Details.{length-on_patches, combining_lines}
 use Rattle.task_check.proofs.Tests.{any-alike, any-constant, any-flat_map, any-map, any-places}
-use Rattle.task_check.proofs.Volumes.{IsOnGrid, length-indexes, space_on_grid}
+use Rattle.task_check.proofs.Volumes.{LiesOnGrid, space_lies}
+use Rattle.uts_geom.specs.Places.{length-indexes}
 
 -- Some detailed task of a list passes a test: by the tasks.
 pub any_details : (q : Detail → Bool) (f : Task → Bool) (p : Problem) (tasks : List Task) →
@@ -97,19 +98,19 @@ module _ (p : Problem) (form : IsProblemInForm p) (list limit : ℕ) (of_two : l
   )
 
 -- The stored part of a window.
-pub one_space : (l : Level) (c : Centring) (s : Span) → KeepsGridLimits l → spaces_on c l ≡ s ∷ [] → IsOnGrid s
-one_space l c s limits is = by_boxes l.boxes limits.one_box (λ b only. space_on_grid c b (All-head HasNearBounds b [] (subst (All HasNearBounds) only limits.boxes))) is
+pub one_space : (l : Level) (c : Centring) (s : Span) → KeepsGridLimits l → spaces_on c l ≡ s ∷ [] → LiesOnGrid s
+one_space l c s limits is = by_boxes l.boxes limits.one_box (λ b only. space_lies c b (All-head HasNearBounds b [] (subst (All HasNearBounds) only limits.boxes))) is
   where
-    by_boxes : (boxes : List BoxLine) → length boxes ≡ 1 → ((b : BoxLine) → boxes ≡ b ∷ [] → IsOnGrid (space_of c b)) → map (space_of c) boxes ≡ s ∷ [] → IsOnGrid s
+    by_boxes : (boxes : List BoxLine) → length boxes ≡ 1 → ((b : BoxLine) → boxes ≡ b ∷ [] → LiesOnGrid (space_of c b)) → map (space_of c) boxes ≡ s ∷ [] → LiesOnGrid s
     by_boxes [] one each same = absurd (omega arith)
-    by_boxes (b ∷ []) one each same = let e : space_of c b ≡ s = cc in subst IsOnGrid e (each b refl)
+    by_boxes (b ∷ []) one each same = let e : space_of c b ≡ s = cc in subst LiesOnGrid e (each b refl)
     by_boxes (b ∷ d ∷ boxes) one each same = absurd (omega arith)
 
 -- a span that holds its low corner
 near_between : (low high : ℤ) → is_between low high low ≡ true → pos 0 ≤ℤ low → high ≤ℤ pos 4097 → IsNearNumber low × IsNearNumber high
 near_between low high holds from to = ((grind (arith, ints), grind (arith, ints)), (grind (arith, ints), grind (arith, ints)))
 
-pub near_where_held : (s : Span) → IsOnGrid s → is_inside s s.lo ≡ true → IsNearSpan s
+pub near_where_held : (s : Span) → LiesOnGrid s → is_inside s s.lo ≡ true → IsNearSpan s
 near_where_held s on holds =
     let (x, rest) = and_parts _ _ holds in
     let (y, z) = and_parts _ _ rest in
@@ -128,7 +129,7 @@ pub none_where_not_held : (s : Span) → is_inside s s.lo ≡ false → 0 ≡ le
 none_where_not_held s fails = sym (length-indexes s ∙ by_axis (is_between s.lo.x s.hi.x s.lo.x) (is_between s.lo.y s.hi.y s.lo.y) (is_between s.lo.z s.hi.z s.lo.z) refl refl refl fails)
   where
     by_axis : (x y z : Bool) → is_between s.lo.x s.hi.x s.lo.x ≡ x → is_between s.lo.y s.hi.y s.lo.y ≡ y → is_between s.lo.z s.hi.z s.lo.z ≡ z →
-        (x && (y && z)) ≡ false → depth_of s * (height_of s * width_of s) ≡ 0
+        (x && (y && z)) ≡ false → width_of s * (height_of s * depth_of s) ≡ 0
     by_axis false y z at_x at_y at_z none = let e = no_gap s.lo.x s.hi.x at_x in rw e (omega arith)
     by_axis true false z at_x at_y at_z none = let e = no_gap s.lo.y s.hi.y at_y in rw e (omega arith)
     by_axis true true false at_x at_y at_z none = let e = no_gap s.lo.z s.hi.z at_z in rw e (omega arith)

@@ -4,6 +4,7 @@ use Rattle.std.specs.Prelude.{All, Any, IfSome, slice_get}
 use Rattle.std.proofs.lemmas.List.Folds.{Any-from_list_any, list_any-from_Any}
 use Rattle.uts_geom.specs.declared.span.Span.{Span}
 use Rattle.uts_geom.specs.Spans.{is_inside}
+use Rattle.uts_geom.specs.Lists.{not_above}
 use Rattle.problem_types.specs.Form.{IsProblemInForm}
 use Rattle.problem_types.specs.Levels.{cells_of, IsProper, LiesIn, IsTiled}
 use Rattle.problem_types.specs.declared.problem.Problem.{Problem}
@@ -13,7 +14,7 @@ use Rattle.grid_levels.specs.Good.{HasMultiples, divided, IsNested, IsGood, IsGo
 use Rattle.task_check.specs.declared.fault.FaultKind.TheVariants as kind
 use Rattle.task_check.specs.Faults.{of_level}
 use Rattle.task_check.specs.First.{IsFaultless}
-use Rattle.task_check.proofs.Accepted.{not_above, not_from, not_not_true, level_in_form}
+use Rattle.task_check.proofs.Accepted.{not_from, not_not_true, level_in_form}
 
 abbrev Stable : Type 0 → Type 0
 Stable P = ((P → ⊥) → ⊥) → P

@@ -7,6 +7,7 @@ use Rattle.std.proofs.lemmas.List.Folds.{list_any-append}
 use Rattle.kernel_ast.specs.declared.expression.Store.{Store}
 use Rattle.kernel_ast.specs.declared.expression.Store.TheVariants as store
 use Rattle.uts_geom.specs.Spans.{counted}
+use Rattle.uts_geom.specs.Lists.{all_at, placed}
 use Rattle.problem_types.specs.Form.{IsProblemInForm, IsLevelInForm}
 use Rattle.problem_types.specs.Lists.{task_list, is_reduces}
 use Rattle.problem_types.specs.declared.problem.Problem.{Problem}
@@ -17,7 +18,7 @@ use Rattle.task_check.specs.First.{IsFaultless}
 use Rattle.task_check.specs.Places.{IsTaskAt}
 use Rattle.task_check.specs.Plan.{Detail, OnPatch, Combining, Slot, Old, OldNumber, patches_of, line_is, on_patches, combining, details_of, is_in_window, is_of_number, has_variable, has_number, wants, reads, is_read}
 use Rattle.task_check.specs.OldSlots.{is_old, is_old_variable, is_old_number, wants_old, reads_variable, reads_number, requires_old, touches_patch}
-use Rattle.task_check.proofs.Accepted.{all_at, levels_below, task_in_form, placed}
+use Rattle.task_check.proofs.Accepted.{levels_below, task_in_form}
 use Rattle.task_check.proofs.Details.{patches_at}
 use Rattle.task_check.proofs.Tests.{any-alike, any-flat_map, any-map, any-places}
 

@@ -3,6 +3,7 @@ use Rattle.std.proofs.Common.{◌≡◌, ◌∙◌, ◌<◌, ◌+◌, ◌⊎◌,
 use Rattle.std.specs.Prelude.{slice_get, ◌==◌, ◌&&◌, IsTrue}
 use Rattle.std.specs.Option.{is_some}
 use Rattle.std.proofs.lemmas.Bool.{eq-eqb}
+use Rattle.uts_geom.specs.Lists.{get-take, any_at, found_at}
 use Rattle.problem_types.specs.Lists.{task_list, is_of_field, is_computes, is_reduces, reduction_write}
 use Rattle.problem_types.specs.declared.problem.Problem.{Problem}
 use Rattle.problem_types.specs.declared.problem.Var.{Var}
@@ -19,8 +20,7 @@ use Rattle.task_check.specs.Lines.{IsWrittenBefore, IsUnordered}
 use Rattle.task_check.specs.Faults.{of_variable, of_reduction, of_require, of_write}
 use Rattle.task_check.specs.Places.{IsTaskAt, IsWriteAt}
 use Rattle.task_check.specs.First.{IsFaultless}
-use Rattle.task_check.proofs.Sums.{from_place}
-use Rattle.task_check.proofs.AtPlaces.{any_before, get-take, found_at}
+use Rattle.task_check.proofs.AtPlaces.{any_before}
 
 -- the two sides of a conjunction of tests
 pub both : (a b : Bool) → (a && b) ≡ true → (a ≡ true) × (b ≡ true)
@@ -58,13 +58,13 @@ module _ (p : Problem) (faultless : IsFaultless p) (list place : ℕ) (t : Task)
   computes_before : (i j : ℕ) (v : Write) (name : ℕ) → i < j → slice_get t.writes i ≡ Some v → v.name ≡ name → v.kind ≡ write.Computes →
       has_computes (take j t.writes) name ≡ true
   computes_before i j v name before at same is =
-      from_place (λ (w : Write). (w.name == name) && is_computes w.kind) (take j t.writes) i v (get-take t.writes j i before ∙ at)
+      any_at (λ (w : Write). (w.name == name) && is_computes w.kind) (take j t.writes) i v (get-take t.writes j i before ∙ at)
       (of_both (v.name == name) (is_computes v.kind) (eq-eqb v.name name same) (ap is_computes is))
 
   modifies_before : (i j : ℕ) (v : Write) (name : ℕ) → i < j → slice_get t.writes i ≡ Some v → v.name ≡ name → v.kind ≡ write.Modifies →
       has_modifies (take j t.writes) name ≡ true
   modifies_before i j v name before at same is =
-      from_place (λ (w : Write). (w.name == name) && is_modifies w.kind) (take j t.writes) i v (get-take t.writes j i before ∙ at)
+      any_at (λ (w : Write). (w.name == name) && is_modifies w.kind) (take j t.writes) i v (get-take t.writes j i before ∙ at)
       (of_both (v.name == name) (is_modifies v.kind) (eq-eqb v.name name same) (ap is_modifies is))
 
   -- no two lines write one variable
@@ -103,7 +103,7 @@ module _ (p : Problem) (faultless : IsFaultless p) (list place : ℕ) (t : Task)
   pub reduced_twice : (i j : ℕ) (v w : Write) → i < j → slice_get t.writes i ≡ Some v → slice_get t.writes j ≡ Some w → v.name ≡ w.name →
       is_reduces v.kind ≡ true → is_reduces w.kind ≡ true → ⊥
   reduced_twice i j v w before at_i at_j same first second =
-      reduced j w at_j second (inr (from_place (λ (u : Write). (u.name == w.name) && is_reduces u.kind) (take j t.writes) i v (get-take t.writes j i before ∙ at_i)
+      reduced j w at_j second (inr (any_at (λ (u : Write). (u.name == w.name) && is_reduces u.kind) (take j t.writes) i v (get-take t.writes j i before ∙ at_i)
       (of_both (v.name == w.name) (is_reduces v.kind) (eq-eqb v.name w.name same) first)))
 
   -- nor do two tasks
@@ -111,7 +111,7 @@ module _ (p : Problem) (faultless : IsFaultless p) (list place : ℕ) (t : Task)
       (i j : ℕ) (v w : Write) → slice_get s.writes i ≡ Some v → slice_get t.writes j ≡ Some w → v.name ≡ w.name →
       is_reduces v.kind ≡ true → is_reduces w.kind ≡ true → ⊥
   reduced_by_two earlier s before at i j v w at_i at_j same first second =
-      reduced j w at_j second (inl (from_place (λ (u : Task). is_some (reduction_write u w.name)) (take place (task_list p list)) earlier s
+      reduced j w at_j second (inl (any_at (λ (u : Task). is_some (reduction_write u w.name)) (take place (task_list p list)) earlier s
       (get-take (task_list p list) place earlier before ∙ at)
       (found_at (λ (u : Write). (u.name == w.name) && is_reduces u.kind) s.writes i v at_i
       (of_both (v.name == w.name) (is_reduces v.kind) (eq-eqb v.name w.name same) first))))

@@ -3,6 +3,7 @@ use Rattle.std.proofs.Common.{◌≡◌, inl, inr, ℕ, zero, suc, ◌<◌, ◌�
 use Rattle.std.specs.List.{flat_map}
 use Rattle.std.specs.Option.{option_or}
 use Rattle.std.proofs.lemmas.Option.{none-some, slice_get-get_or}
+use Rattle.uts_geom.specs.Lists.{not_above}
 use Rattle.problem_types.specs.Form.{IsProblemInForm, grid_lines, timestep_lines, later_lines, level_lines, task_lines, closing_lines, schedule_lines}
 use Rattle.problem_types.specs.Lists.{task_list}
 use Rattle.problem_types.specs.declared.problem.Problem.{Problem}
@@ -13,7 +14,7 @@ use Rattle.task_check.specs.First.{IsFirst}
 use Rattle.task_check.specs.Parts.{Either, OnLine, OnNumber, OfNumbers, OfLevels, OfGrid, OfVariables, OfReductions, OfTask, OfTasks, OfRequirements, OfWrites, OfKeeps, OfLists}
 use Rattle.task_check.specs.declared.fault.FaultKind.TheVariants as kind
 use Rattle.task_check.specs.Supplies.{layers_of}
-use Rattle.task_check.proofs.Accepted.{all_unless, not_above}
+use Rattle.task_check.proofs.Accepted.{all_unless}
 use Rattle.task_check.proofs.Rising.{Rises, rising, rises_left, rises_right, among_left, one_each}
 use Rattle.task_check.proofs.Walk.{StandsOn, one_line, items_on, both_on, in_turn}
 

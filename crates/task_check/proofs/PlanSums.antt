@@ -8,13 +8,13 @@ use Rattle.std.proofs.lemmas.List.Sums.{sum_by-append, sum_by_more}
 use Rattle.std.proofs.lemmas.Option.{get_or_from_slice_get, slice_get_within}
 use Rattle.uts_geom.specs.Spans.{counted}
 use Rattle.uts_geom.specs.Counting.{at-counted, counted-at}
+use Rattle.uts_geom.specs.Lists.{placed}
 use Rattle.problem_types.specs.Lists.{is_reduces}
 use Rattle.problem_types.specs.declared.problem.Problem.{Problem}
 use Rattle.problem_types.specs.declared.problem.Task.{Task}
 use Rattle.problem_types.specs.declared.problem.Write.{Write}
 use Rattle.task_check.specs.Plan.{Detail, OnPatch, Combining, Slot, Number, patches_of, line_is, on_patches, combining, details_of, slot_written, written_by}
 use Rattle.task_check.specs.PlanSums.{by_place}
-use Rattle.task_check.proofs.Accepted.{placed}
 use Rattle.task_check.proofs.Sums.{sum-same, sum-nothing, sum-flat_map, sum-map, sum-filter, sum-one, sum-counted_more, count-one}
 
 -- Sums by place.

@@ -10,6 +10,7 @@ use Rattle.kernel_ast.specs.declared.expression.Store.{Store}
 use Rattle.uts_geom.specs.Spans.{counted}
 use Rattle.uts_geom.specs.declared.span.Span.{Span}
 use Rattle.uts_geom.specs.Counting.{counted-at, within}
+use Rattle.uts_geom.specs.Lists.{contains_at, placed, any_at}
 use Rattle.problem_types.specs.Form.{IsProblemInForm}
 use Rattle.problem_types.specs.Lists.{task_list, is_reduces, centring_of}
 use Rattle.problem_types.specs.declared.problem.Problem.{Problem}
@@ -33,9 +34,8 @@ use Rattle.task_check.specs.Reading.{requirement_reads, level_reads, patch_reads
 use Rattle.task_check.specs.declared.plan.reach.Reach.{Reach}
 use Rattle.task_check.specs.declared.plan.reach.Reach.TheVariants as reach
 use Rattle.task_check.specs.Supplies.{seen_of}
-use Rattle.task_check.proofs.Accepted.{placed, levels_below, materials_below, is_known, wanted_below}
-use Rattle.task_check.proofs.Sums.{sum-same, sum-filter, sum-exchange, sum-constant, sum-each, sum-times, count-some, from_place}
-use Rattle.task_check.proofs.AtPlaces.{contains_at}
+use Rattle.task_check.proofs.Accepted.{levels_below, materials_below, is_known, wanted_below}
+use Rattle.task_check.proofs.Sums.{sum-same, sum-filter, sum-exchange, sum-constant, sum-each, sum-times, count-some}
 use Rattle.task_check.proofs.Once.{of_both, never_repeats}
 use Rattle.task_check.proofs.PlanSums.{by_place-same, by_place-sum, sum-details, sum-on_patches, sum-combining}
 use Rattle.task_check.proofs.OldSlots.{no_old_variable, no_old_number}
@@ -206,7 +206,7 @@ module _ (p : Problem) (form : IsProblemInForm p) (faultless : IsFaultless p) (l
       is_read_where_wanted : (k : ℕ) (r : Require) → slice_get t.requirements k ≡ Some r → (s : Slot) → wants p tasks place t level material patch s r ≡ true → is_read p tasks s ≡ true
       is_read_where_wanted k r at_line s wanted =
           among_details (λ d. reads p tasks d s) p tasks place t i level j material h patch at at_level at_material at_patch
-          (reads_by_wants s ∙ from_place (wants p tasks place t level material patch s) t.requirements k r at_line wanted)
+          (reads_by_wants s ∙ any_at (wants p tasks place t level material patch s) t.requirements k r at_line wanted)
 
       by_wanted : (k : ℕ) (r : Require) → slice_get t.requirements k ≡ Some r → count_by (λ s. wants p tasks place t level material patch s r) (slots_of p tasks) ≡ reads_for p t level patch r
       by_wanted k r at_line =
@@ -217,8 +217,8 @@ module _ (p : Problem) (form : IsProblemInForm p) (faultless : IsFaultless p) (l
           (All-contains (λ m. m < p.materials.value) t.materials material (materials_below p form faultless list place t there) (contains_at t.materials j material at_material))
           r.store r.what level (is_in_window p t r level patch) (is_known p faultless list place t k r (require_at k r at_line))
           (of_both (list_any (λ m. m == material) t.materials) (list_any (λ l. l == level) t.levels)
-          (from_place (λ m. m == material) t.materials j material at_material (eq-eqb material material refl))
-          (from_place (λ l. l == level) t.levels i level at_level (eq-eqb level level refl)))
+          (any_at (λ m. m == material) t.materials j material at_material (eq-eqb material material refl))
+          (any_at (λ l. l == level) t.levels i level at_level (eq-eqb level level refl)))
           (wanted_there i level k r at_level at_line)
           (λ nothing. faultless r.line kind.MissingCompute (of_require list place t k r kind.MissingCompute (require_at k r at_line) nothing))
 

@@ -5,6 +5,7 @@ use Rattle.std.specs.List.{count_by, sum_by, filter, flat_map, list_any}
 use Rattle.std.proofs.Math.Nat.{eq-or-lt_of_le}
 use Rattle.std.proofs.lemmas.List.Sums.{sum_by-cons, sum_by-append}
 use Rattle.uts_geom.specs.Spans.{counted}
+use Rattle.uts_geom.specs.Lists.{at_place}
 
 -- sums of equal terms, and of none
 pub sum-same : {X : Type 0} (f g : X → ℕ) (xs : List X) → ((k : ℕ) (x : X) → slice_get xs k ≡ Some x → f x ≡ g x) → sum_by f xs ≡ sum_by g xs
@@ -107,25 +108,6 @@ one_of_two true true apart = absurd (apart refl refl)
 one_of_two true false apart = refl
 one_of_two false true apart = refl
 one_of_two false false apart = refl
-
--- one of the values passes, at its place
-pub at_place : {S : Type 0} (p : S → Bool) (ss : List S) → list_any p ss ≡ true → (k : ℕ) × (s : S) × (slice_get ss k ≡ Some s) × (p s ≡ true)
-at_place p [] some = absurd cc
-at_place {S} p (s ∷ ss) some = by_test (p s) refl some (at_place p ss)
-  where
-    by_test : (b : Bool) → p s ≡ b → (b || list_any p ss) ≡ true → (list_any p ss ≡ true → (k : ℕ) × (t : S) × (slice_get ss k ≡ Some t) × (p t ≡ true)) →
-        (k : ℕ) × (t : S) × (slice_get (s ∷ ss) k ≡ Some t) × (p t ≡ true)
-    by_test true is some rest = (0, s, refl, is)
-    by_test false is some rest = let there = rest some in (suc there.0, there.1, there.2, there.3)
-
-pub from_place : {S : Type 0} (p : S → Bool) (ss : List S) (k : ℕ) (s : S) → slice_get ss k ≡ Some s → p s ≡ true → list_any p ss ≡ true
-from_place p [] k s at passes = absurd cc
-from_place p (t ∷ ss) zero s at passes = let same : t ≡ s = cc in rw (same, passes) refl
-from_place {S} p (t ∷ ss) (suc k) s at passes = by_test (p t) (from_place p ss k s at passes)
-  where
-    by_test : (b : Bool) → list_any p ss ≡ true → (b || list_any p ss) ≡ true
-    by_test true some = refl
-    by_test false some = some
 
 -- what passes one of several tests, where nothing passes two
 pub count-some : {S X : Type 0} (p : S → X → Bool) (ss : List S) (xs : List X) →

@@ -9,7 +9,7 @@ use Rattle.std.proofs.lemmas.Option.{slice_get-get_or}
 use Rattle.std.proofs.lemmas.List.{take_all}
 use Rattle.std.proofs.lemmas.List.Folds.{list_any-append, list_any_more}
 use Rattle.uts_geom.specs.Spans.{counted}
-use Rattle.task_check.proofs.Accepted.{placed}
+use Rattle.uts_geom.specs.Lists.{placed}
 
 and_false : (b : Bool) → (b && false) ≡ false
 and_false true = refl

@@ -5,6 +5,7 @@ use Rattle.std.specs.List.{count_by, flat_map, list_any}
 use Rattle.std.specs.Option.{is_some}
 use Rattle.std.proofs.lemmas.Bool.{eqb-true}
 use Rattle.std.proofs.lemmas.List.Sums.{sum_by-append}
+use Rattle.uts_geom.specs.Lists.{any_at, at_place, found_at, place_of_found}
 use Rattle.kernel_ast.specs.declared.expression.Store.{Store}
 use Rattle.kernel_ast.specs.declared.expression.Store.TheVariants as store
 use Rattle.problem_types.specs.Form.{IsProblemInForm}
@@ -25,8 +26,7 @@ use Rattle.task_check.specs.Places.{IsTaskAt}
 use Rattle.task_check.specs.First.{IsFaultless}
 use Rattle.task_check.specs.Plan.{Slot, patches_of, patch_of, old_variables, old_numbers, details_of, slot_written, written_by, has_variable, has_number, writes_variable, is_of_number}
 use Rattle.task_check.proofs.Accepted.{task_in_form}
-use Rattle.task_check.proofs.Sums.{at_place, from_place}
-use Rattle.task_check.proofs.AtPlaces.{one_by_order, place_of_found, found_at}
+use Rattle.task_check.proofs.AtPlaces.{one_by_order}
 use Rattle.task_check.proofs.Once.{both, of_both, variable_twice, reduction_twice, field_twice, reduced_twice, reduced_by_two}
 use Rattle.task_check.proofs.OldSlots.{no_old_variable, no_old_number, no_written, old_variable_once, old_number_once}
 use Rattle.task_check.proofs.NewSlots.{NoTwoLines, new_variable_once, new_number_once}
@@ -44,7 +44,7 @@ computing_writes tasks name material level some =
     let parts = both (runs_on t.1 material level) (list_any (λ (w : Write). (w.name == name) && is_computes w.kind) t.1.writes) t.3 in
     let w = at_place (λ (w : Write). (w.name == name) && is_computes w.kind) t.1.writes parts.1 in
     let named = both (w.1.name == name) (is_computes w.1.kind) w.3 in
-    from_place (writes_variable name material level) tasks t.0 t.1 t.2
+    any_at (writes_variable name material level) tasks t.0 t.1 t.2
     (of_both (runs_on t.1 material level) (is_some (field_write t.1 name)) parts.0
     (found_at (λ (v : Write). (v.name == name) && is_of_field v.kind) t.1.writes w.0 w.1 w.2
     (of_both (w.1.name == name) (is_of_field w.1.kind) named.0 (of_computing w.1.kind named.1))))

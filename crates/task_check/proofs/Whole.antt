@@ -1,5 +1,6 @@
 -- The faults of all parts are the faults of the problem.
 use Rattle.std.proofs.Common.{◌≡◌, inl, inr, ℕ, zero, suc, ◌<◌, ◌≤◌, arith, refl, sym, subst, Option, Some, None}
+use Rattle.uts_geom.specs.Lists.{not_above}
 use Rattle.problem_types.specs.declared.problem.Problem.{Problem}
 use Rattle.task_check.specs.declared.fault.Fault.{Fault}
 use Rattle.task_check.specs.declared.fault.FaultKind.{FaultKind}
@@ -9,7 +10,6 @@ use Rattle.task_check.specs.First.{IsFirst}
 use Rattle.task_check.specs.Places.{IsTaskAt}
 use Rattle.task_check.specs.Faults.{HasFault, of_steps, of_dump, of_ghost, of_materials, of_level, of_variable, of_reduction, of_task, of_require, of_write, of_keep}
 use Rattle.task_check.specs.Parts.{OfNumbers, OfGrid, OfTask, OfTasks, OfLines}
-use Rattle.task_check.proofs.Accepted.{not_above}
 
 moved_to : (P : ℕ → FaultKind → Type 0) (l m : ℕ) (j k : FaultKind) → l ≡ m → j ≡ k → P m k → P l j
 moved_to P l m j k on is h = subst (λ n. P n j) (sym on) (subst (P m) (sym is) h)

@@ -1,5 +1,3 @@
-pub mod Pieces
-pub mod Places
 pub mod Sets
 pub mod Meets
 pub mod Walking

@@ -9,8 +9,8 @@ use Rattle.std.proofs.lemmas.List.Elements.{All-map, All-contains}
 use Rattle.uts_geom.specs.declared.index.Index.{Index}
 use Rattle.uts_geom.specs.declared.span.Span.{Span}
 use Rattle.uts_geom.specs.Spans.{index, is_between, is_inside, from_to, row_indexes, indexes_of, width_of, height_of, depth_of}
-use Rattle.uts_geom.proofs.Pieces.{All-pieces, split_below}
-use Rattle.uts_geom.proofs.Places.{length-from_to, get-from_to, between_above, length-indexes, get-indexes, get-inside, gap_of_sum}
+use Rattle.uts_geom.specs.Pieces.{All-pieces, split_below}
+use Rattle.uts_geom.specs.Places.{length-from_to, get-from_to, between_above, length-indexes, get-indexes, get-inside, gap_of_sum}
 
 -- the numbers of a range lie in it
 All-between : (low high : ℤ) → All (λ n. is_between low high n ≡ true) (from_to low high)

@@ -9,8 +9,8 @@ use Rattle.std.proofs.lemmas.Option.{get_or_from_slice_get, slice_get_within}
 use Rattle.uts_geom.specs.declared.index.Index.{Index}
 use Rattle.uts_geom.specs.declared.span.Span.{Span}
 use Rattle.uts_geom.specs.Spans.{is_between, is_inside, rows_of, height_of, depth_of, IsNearNumber, IsNear, IsNearSpan}
-use Rattle.uts_geom.proofs.Pieces.{split_below}
-use Rattle.uts_geom.proofs.Places.{length-rows, length-no_rows, get-all_rows}
+use Rattle.uts_geom.specs.Pieces.{split_below}
+use Rattle.uts_geom.specs.Places.{length-rows, length-no_rows, get-all_rows}
 
 pub gap_near : (low high : ℤ) → IsNearNumber low → IsNearNumber high → int_gap low high ≤ 131072
 gap_near low high a b = first_of (grind (arith, ints), omega (arith, ints))

@@ -2,3 +2,9 @@ pub mod Centrings
 pub mod Spans
 pub mod Rows
 pub mod Counting
+pub mod Lists
+pub mod ByPlace
+pub mod Near
+pub mod Pieces
+pub mod Places
+pub mod SameIndexes

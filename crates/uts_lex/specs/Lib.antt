@@ -4,3 +4,4 @@ pub mod Tokens
 pub mod Names
 pub mod Words
 pub mod Spelling
+pub mod NameNumbers

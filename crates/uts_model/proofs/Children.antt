@@ -13,7 +13,8 @@ use Rattle.uts_geom.specs.declared.index.Index.{Index}
 use Rattle.uts_geom.specs.declared.span.Span.{Span}
 use Rattle.problem_types.specs.Regions.{ratio_of, is_in_space, children_along, children_of}
 use Rattle.problem_types.specs.declared.problem.Problem.{Problem}
-use Rattle.uts_model.specs.Grids.{IsOnAxis, IsOnGrid, children_end, all_children}
+use Rattle.problem_types.specs.NearSpaces.{IsOnAxis, IsOnGrid}
+use Rattle.uts_model.specs.Grids.{children_end, all_children}
 use Rattle.uts_model.proofs.Filtered.{indexes-meet}
 
 one_gap : (low : ℤ) → int_gap low (low +ℤ pos 1) ≡ 1
@@ -75,28 +76,8 @@ end_near false ratio n small on = let first = first_near ratio n small on in (om
 low_near : (ratio : ℕ) (n : ℤ) → ratio ≤ 4 → IsOnAxis n → IsNearNumber (pos ratio *ℤ n)
 low_near ratio n small on = let first = first_near ratio n small on in (omega (arith, ints, first.0), omega (arith, ints, first.1))
 
-max_near : (a b : ℤ) → IsNearNumber a → IsNearNumber b → IsNearNumber (int_max a b)
-max_near a b on_a on_b = (omega (arith, ints, clamps, on_a.0, on_b.0), omega (arith, ints, clamps, on_a.1, on_b.1))
-
-min_near : (a b : ℤ) → IsNearNumber a → IsNearNumber b → IsNearNumber (int_min a b)
-min_near a b on_a on_b = (omega (arith, ints, clamps, on_a.0, on_b.0), omega (arith, ints, clamps, on_a.1, on_b.1))
-
 pub all_near : (ratio : ℕ) (c : Centring) (i : Index) → ratio ≤ 4 → IsOnGrid i → IsNearSpan (all_children (pos ratio) c i)
 all_near ratio c i small on = record {
   lo = record { x = low_near ratio i.x small on.x; y = low_near ratio i.y small on.y; z = low_near ratio i.z small on.z };
   hi = record { x = end_near _ ratio i.x small on.x; y = end_near _ ratio i.y small on.y; z = end_near _ ratio i.z small on.z };
-}
-
-pub meet_near : (a b : Span) → IsNearSpan a → IsNearSpan b → IsNearSpan (meet_of a b)
-meet_near a b on_a on_b = record {
-  lo = record {
-    x = max_near a.lo.x b.lo.x on_a.lo.x on_b.lo.x;
-    y = max_near a.lo.y b.lo.y on_a.lo.y on_b.lo.y;
-    z = max_near a.lo.z b.lo.z on_a.lo.z on_b.lo.z;
-  };
-  hi = record {
-    x = min_near a.hi.x b.hi.x on_a.hi.x on_b.hi.x;
-    y = min_near a.hi.y b.hi.y on_a.hi.y on_b.hi.y;
-    z = min_near a.hi.z b.hi.z on_a.hi.z on_b.hi.z;
-  };
 }

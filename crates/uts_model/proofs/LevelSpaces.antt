@@ -17,51 +17,12 @@ use Rattle.problem_types.specs.Regions.{end_of, space_of, spaces_of, is_in_space
 use Rattle.problem_types.specs.declared.problem.BoxLine.{BoxLine}
 use Rattle.problem_types.specs.declared.problem.Level.{Level}
 use Rattle.problem_types.specs.declared.problem.Problem.{Problem}
-use Rattle.uts_model.specs.Grids.{AreBoundedLevels, IsOnAxis, IsOnGrid, IsOnLevel}
+use Rattle.problem_types.specs.NearSpaces.{IsOnAxis, IsOnGrid, IsOnGridSpan, near_index, level_on_grid, space_on_grid}
+use Rattle.uts_model.specs.Grids.{AreBoundedLevels, IsOnLevel}
 
 or_false : (b : Bool) → (b || false) ≡ b
 or_false true = refl
 or_false false = refl
-
--- a span whose corners are on the grid
-pub record IsOnGridSpan (s : Span) : Type 0 where
-  pub lo : IsOnGrid s.lo
-  pub hi : IsOnGrid s.hi
-
-low_on_axis : (n : ℕ) → n ≤ 4096 → IsOnAxis (pos n)
-low_on_axis n near = (omega (arith, ints), omega (arith, ints))
-
-end_on_axis : (point : Bool) (n : ℕ) → n ≤ 4096 → IsOnAxis (end_of point n)
-end_on_axis true n near = (omega (arith, ints), omega (arith, ints))
-end_on_axis false n near = (omega (arith, ints), omega (arith, ints))
-
-pub space_on_grid : (c : Centring) (b : BoxLine) → HasNearBounds b → IsOnGridSpan (space_of c b)
-space_on_grid c b near =
-    let on_x = near 0 (omega arith) in
-    let on_y = near 1 (omega arith) in
-    let on_z = near 2 (omega arith) in
-    record {
-      lo = record { x = low_on_axis _ on_x.0; y = low_on_axis _ on_y.0; z = low_on_axis _ on_z.0 };
-      hi = record { x = end_on_axis _ _ on_x.1; y = end_on_axis _ _ on_y.1; z = end_on_axis _ _ on_z.1 };
-    }
-
-pub level_on_grid : (c : Centring) (l : Level) (s : Span) → KeepsGridLimits l → spaces_on c l ≡ s ∷ [] → IsOnGridSpan s
-level_on_grid c l s limits one = by_box l.boxes limits.boxes one
-  where
-    by_box : (boxes : List BoxLine) → All HasNearBounds boxes → map (space_of c) boxes ≡ s ∷ [] → IsOnGridSpan s
-    by_box [] near one = absurd cc
-    by_box (b ∷ rest) near one =
-        let same : space_of c b ≡ s = cc in
-        subst (λ (t : Span). IsOnGridSpan t) same (space_on_grid c b (near 0 b (omega arith)))
-
-near_axis : (n : ℤ) → IsOnAxis n → IsNearNumber n
-near_axis n on = (omega (arith, ints, on.0), omega (arith, ints, on.1))
-
-near_index : (i : Index) → IsOnGrid i → IsNear i
-near_index i on = record { x = near_axis i.x on.x; y = near_axis i.y on.y; z = near_axis i.z on.z }
-
-pub near_span : (s : Span) → IsOnGridSpan s → IsNearSpan s
-near_span s on = record { lo = near_index s.lo on.lo; hi = near_index s.hi on.hi }
 
 between_on_axis : (low high n : ℤ) → is_between low high n ≡ true → IsOnAxis low → IsOnAxis high → IsOnAxis n
 between_on_axis low high n between a b = (grind (arith, ints), grind (arith, ints))

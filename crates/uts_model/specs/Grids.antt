@@ -7,6 +7,7 @@ use Rattle.uts_geom.specs.declared.centring.Centring.{Centring}
 use Rattle.uts_geom.specs.declared.index.Index.{Index}
 use Rattle.uts_geom.specs.declared.span.Span.{Span}
 use Rattle.problem_types.specs.Levels.{KeepsGridLimits}
+use Rattle.problem_types.specs.NearSpaces.{IsOnGrid}
 use Rattle.problem_types.specs.declared.problem.Level.{Level}
 use Rattle.problem_types.specs.declared.problem.Problem.{Problem}
 
@@ -19,15 +20,6 @@ pub record IsBoundedLevel (l : Level) : Type 0 where
 pub record AreBoundedLevels (p : Problem) : Type 0 where
   pub few : length p.levels ≤ 4
   pub each : (level : ℕ) (l : Level) → slice_get p.levels level ≡ Some l → IsBoundedLevel l
-
--- the coordinates of indexes on levels within the limits
-abbrev pub IsOnAxis : ℤ → Type 0
-IsOnAxis n = (pos 0 ≤ℤ n) × (n ≤ℤ pos 4097)
-
-pub record IsOnGrid (i : Index) : Type 0 where
-  pub x : IsOnAxis i.x
-  pub y : IsOnAxis i.y
-  pub z : IsOnAxis i.z
 
 -- the problem has the level, and the index may lie on it
 pub record IsOnLevel (p : Problem) (level : ℕ) (i : Index) : Type 0 where

@@ -11,31 +11,12 @@ use Rattle.std.proofs.lemmas.List.Sums.{position_or_len_is}
 use Rattle.std.proofs.lemmas.Option.{slice_get_within, get_or_from_slice_get, slice_get-get_or}
 use Rattle.uts_geom.specs.declared.index.Index.{Index}
 use Rattle.uts_geom.specs.Spans.{index}
-use Rattle.whole_fields.specs.Stored.{is_same_index, found, number_among}
-
-by_coordinates : (i j : Index) → i.x ≡ j.x → i.y ≡ j.y → i.z ≡ j.z → i ≡ j
-by_coordinates i j x y z = ap (λ n. index n i.y i.z) x ∙ ap (λ n. index j.x n i.z) y ∙ ap (λ n. index j.x j.y n) z
-
-pub same_index_decides : (i j : Index) → Decides (is_same_index i j) (i ≡ j)
-same_index_decides i j =
-    Decides-like (is_same_index i j) (λ h. by_coordinates i j h.0 h.1.0 h.1.1) (λ e. (ap (λ k. k.x) e, (ap (λ k. k.y) e, ap (λ k. k.z) e)))
-    (Decides-and (int_eq i.x j.x) (int_eq i.y j.y && int_eq i.z j.z) (Decides-int_eq i.x j.x)
-    (Decides-and (int_eq i.y j.y) (int_eq i.z j.z) (Decides-int_eq i.y j.y) (Decides-int_eq i.z j.z)))
+use Rattle.uts_geom.specs.SameIndexes.{position_of_index}
+use Rattle.whole_fields.specs.Stored.{found, number_among}
 
 module _ (indexes : List Index) (once : AllPairs ◌≢◌ indexes) where
-  -- an index of the list stands at its place alone
-  pub position_of_index : (k : ℕ) (i : Index) → slice_get indexes k ≡ Some i → position (λ j. is_same_index i j) indexes ≡ Some k
-  position_of_index k i at =
-      let within = slice_get_within indexes k i at in
-      let here : get_or indexes k i ≡ i = get_or_from_slice_get indexes k i i at in
-      let place : position_or_len (λ j. is_same_index i j) indexes ≡ k =
-      position_or_len_is (λ j. is_same_index i j) indexes k i (omega arith)
-      (λ j before. false_from_ne_true _ (λ same. once j k i before within (sym ((same_index_decides i (get_or indexes j i)).0 same) ∙ sym here)))
-      (λ _. (same_index_decides i (get_or indexes k i)).1 (sym here)) in
-      rw (place, lt-ltb k (length indexes) within) refl
-
   pub number_at_place : (numbers : List ℤ) (k : ℕ) (i : Index) → slice_get indexes k ≡ Some i → number_among indexes numbers i ≡ slice_index_or numbers k (pos 0)
-  number_at_place numbers k i at = ap (λ o. found o numbers) (position_of_index k i at)
+  number_at_place numbers k i at = ap (λ o. found o numbers) (position_of_index indexes once k i at)
 
   -- numbers that a function gives at the indexes in order
   pub number_by_function : (f : Index → ℤ) (numbers : List ℤ) (i : Index) → numbers ≡ map f indexes → Contains indexes i → number_among indexes numbers i ≡ f i

@@ -6,8 +6,9 @@ use Rattle.std.proofs.lemmas.Bool.{cases_lt}
 use Rattle.std.proofs.lemmas.Int.{ints}
 use Rattle.std.proofs.lemmas.List.{length-take, length-drop, length-replicate, get_or-take, get_or-drop, get_or_past}
 use Rattle.uts_geom.specs.Spans.{counted}
+use Rattle.uts_geom.specs.ByPlace.{first_of_three, listed_by, second_of_three, third_of_three}
 use Rattle.whole_fields.specs.Views.{number_along}
-use Rattle.whole_fields.proofs.Lists.{item_of_replicate, listed_by, first_of_three, second_of_three, third_of_three}
+use Rattle.whole_fields.proofs.Lists.{item_of_replicate}
 
 -- where x stands in a row
 before_low : (low from : ℤ) (k : ℕ) → k < int_gap from low → int_lt (from +ℤ pos k) low ≡ true

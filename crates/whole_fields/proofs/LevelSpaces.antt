@@ -12,38 +12,12 @@ use Rattle.uts_geom.specs.declared.index.Index.{Index}
 use Rattle.uts_geom.specs.declared.span.Span.{Span}
 use Rattle.problem_types.specs.Levels.{HasNearBounds, KeepsGridLimits, spaces_on}
 use Rattle.problem_types.specs.Regions.{end_of, space_of, spaces_of, is_in_space, indexes_of as indexes_on_level}
+use Rattle.problem_types.specs.NearSpaces.{level_near}
 use Rattle.problem_types.specs.declared.problem.BoxLine.{BoxLine}
 use Rattle.problem_types.specs.declared.problem.Level.{Level}
 use Rattle.problem_types.specs.declared.problem.Problem.{Problem}
 use Rattle.task_check.specs.Bounds.{IsBounded}
 use Rattle.whole_fields.specs.Views.{IsSpaceOn}
-
-low_near : (low : ℕ) → low ≤ 4096 → IsNearNumber (pos low)
-low_near low small = (omega (arith, ints), omega (arith, ints))
-
-end_near : (point : Bool) (high : ℕ) → high ≤ 4096 → IsNearNumber (end_of point high)
-end_near true high small = (omega (arith, ints), omega (arith, ints))
-end_near false high small = (omega (arith, ints), omega (arith, ints))
-
-space_near : (c : Centring) (b : BoxLine) → HasNearBounds b → IsNearSpan (space_of c b)
-space_near c b near = record {
-  lo = record {
-    x = low_near (slice_index b.lo 0) (near 0 (omega arith)).0;
-    y = low_near (slice_index b.lo 1) (near 1 (omega arith)).0;
-    z = low_near (slice_index b.lo 2) (near 2 (omega arith)).0;
-  };
-  hi = record {
-    x = end_near _ (slice_index b.hi 0) (near 0 (omega arith)).1;
-    y = end_near _ (slice_index b.hi 1) (near 1 (omega arith)).1;
-    z = end_near _ (slice_index b.hi 2) (near 2 (omega arith)).1;
-  };
-}
-
-near_in : (c : Centring) (boxes : List BoxLine) (s : Span) → All HasNearBounds boxes → map (space_of c) boxes ≡ s ∷ [] → IsNearSpan s
-near_in c [] s near one = absurd cc
-near_in c (b ∷ boxes) s near one =
-    let same : space_of c b ≡ s = cc in
-    subst IsNearSpan same (space_near c b (All-head HasNearBounds b boxes near))
 
 or_none : (b : Bool) → (b || false) ≡ b
 or_none true = refl
@@ -55,7 +29,7 @@ pub space_on_level : (p : Problem) (level : ℕ) (c : Centring) (l : Level) (s :
 space_on_level p level c l s at limits one =
     let whole : spaces_of p level c ≡ s ∷ [] = ap (λ (o : Option Level). option_map_or (λ (m : Level). map (space_of c) m.boxes) o []) at ∙ one in
     record {
-      near = near_in c l.boxes s limits.boxes one;
+      near = level_near c l s limits one;
       inside = λ i. ap (list_any (λ (t : Span). is_inside t i)) whole ∙ or_none (is_inside s i);
       indexes = ap (flat_map indexes_of) whole ∙ append-nil (indexes_of s);
       rows = λ y z. ap (flat_map (λ (t : Span). row_indexes t y z)) whole ∙ append-nil (row_indexes s y z);

@@ -13,13 +13,14 @@ use Rattle.std.proofs.lemmas.Simd.{map-map}
 use Rattle.uts_geom.specs.declared.index.Index.{Index}
 use Rattle.uts_geom.specs.declared.span.Span.{Span}
 use Rattle.uts_geom.specs.Spans.{index, counted, is_between, is_inside, indexes_of, row_indexes, width_of}
+use Rattle.uts_geom.specs.SameIndexes.{is_same_index, same_index_decides, position_of_index}
 use Rattle.problem_types.specs.Lists.{centring_of}
 use Rattle.problem_types.specs.Regions.{is_in_space, indexes_of as indexes_on_level}
 use Rattle.problem_types.specs.declared.problem.Problem.{Problem}
-use Rattle.whole_fields.specs.Stored.{is_same_index, number_among, number_of_field, blank_of}
+use Rattle.whole_fields.specs.Stored.{number_among, number_of_field, blank_of}
 use Rattle.whole_fields.specs.declared.warehouse.Warehouse.{Warehouse}
 use Rattle.whole_fields.specs.Views.{IsSpaceOn, number_in, number_along}
-use Rattle.whole_fields.proofs.Among.{same_index_decides, position_of_index, number_at_place}
+use Rattle.whole_fields.proofs.Among.{number_at_place}
 use Rattle.whole_fields.proofs.Lists.{map_alike}
 use Rattle.whole_fields.proofs.RowsTogether.{get_in_row, row_within}
 

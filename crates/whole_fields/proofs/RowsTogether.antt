@@ -12,23 +12,8 @@ use Rattle.uts_geom.specs.declared.index.Index.{Index}
 use Rattle.uts_geom.specs.declared.span.Span.{Span}
 use Rattle.uts_geom.specs.Spans.{index, counted, from_to, row_indexes, indexes_of, width_of}
 use Rattle.uts_geom.specs.Counting.{get_left, get_right, length-counted, get-counted}
+use Rattle.uts_geom.specs.Places.{get-row, length-row}
 use Rattle.whole_fields.proofs.Lists.{drop_right}
-
-pub length-from_to : (low high : ℤ) → length (from_to low high) ≡ int_gap low high
-length-from_to low high = length-map (counted 0 (int_gap low high)) (λ k. low +ℤ pos k) ∙ length-counted 0 (int_gap low high)
-
-pub get-from_to : (low high : ℤ) (k : ℕ) → k < int_gap low high → slice_get (from_to low high) k ≡ Some (low +ℤ pos k)
-get-from_to low high k below =
-    slice_get-map (λ (j : ℕ). low +ℤ pos j) (counted 0 (int_gap low high)) k
-    ∙ ap (option_map (λ (j : ℕ). low +ℤ pos j)) (get-counted 0 (int_gap low high) k below)
-    ∙ ap (λ (j : ℕ). Some (low +ℤ pos j)) (let e : 0 + k ≡ k = omega arith in e)
-
-pub length-row : (s : Span) (y z : ℤ) → length (row_indexes s y z) ≡ width_of s
-length-row s y z = length-map (from_to s.lo.x s.hi.x) (λ x. index x y z) ∙ length-from_to s.lo.x s.hi.x
-
-pub get-row : (s : Span) (y z : ℤ) (k : ℕ) → k < width_of s → slice_get (row_indexes s y z) k ≡ Some (index (s.lo.x +ℤ pos k) y z)
-get-row s y z k below =
-    slice_get-map (λ (x : ℤ). index x y z) (from_to s.lo.x s.hi.x) k ∙ ap (option_map (λ (x : ℤ). index x y z)) (get-from_to s.lo.x s.hi.x k below)
 
 module _ (s : Span) where
   -- where the first index of a row stands, the row begins

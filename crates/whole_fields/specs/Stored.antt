@@ -3,14 +3,12 @@ use Rattle.std.specs.Prelude.{◌≡◌, ℕ, ℤ, pos, ◌+◌, ◌*◌, ◌==�
 use Rattle.std.specs.Option.{ForSome}
 use Rattle.std.specs.Ordering.{int_eq}
 use Rattle.uts_geom.specs.declared.index.Index.{Index}
+use Rattle.uts_geom.specs.SameIndexes.{is_same_index}
 use Rattle.problem_types.specs.Lists.{outside_of, centring_of}
 use Rattle.problem_types.specs.Regions.{is_in_space, indexes_of}
 use Rattle.problem_types.specs.declared.problem.Problem.{Problem}
 use Rattle.uts_model.specs.WholeField.{State}
 use Rattle.whole_fields.specs.declared.warehouse.Warehouse.{Warehouse}
-
-abbrev pub is_same_index : Index → Index → Bool
-is_same_index i j = int_eq i.x j.x && (int_eq i.y j.y && int_eq i.z j.z)
 
 abbrev pub found : Option ℕ → List ℤ → ℤ
 found None numbers = pos 0

@@ -7,9 +7,9 @@ use Rattle.uts_geom.specs.Spans.{is_inside, row_indexes, indexes_of as indexes_o
 use Rattle.uts_geom.specs.declared.centring.Centring.{Centring}
 use Rattle.uts_geom.specs.declared.index.Index.{Index}
 use Rattle.uts_geom.specs.declared.span.Span.{Span}
+use Rattle.uts_geom.specs.SameIndexes.{is_same_index}
 use Rattle.problem_types.specs.Regions.{spaces_of, is_in_space, indexes_of}
 use Rattle.problem_types.specs.declared.problem.Problem.{Problem}
-use Rattle.whole_fields.specs.Stored.{is_same_index}
 
 -- the span has just the indexes that a centring has on a level: it is the level's index space, or empty where there is no such level
 pub record IsSpaceOn (p : Problem) (level : ℕ) (c : Centring) (s : Span) : Type 0 where

@@ -1,7 +1,7 @@
 use Rattle.std.proofs.Common.{◌≡◌, true, sym}
 use Rattle.problem_types.specs.Lists.{task_list, computes}
 use Rattle.dump_text.proofs.FieldRows.{field_there}
-use Rattle.dump_text.proofs.Near.{near_where_one}
+use Rattle.problem_types.specs.NearSpaces.{level_near}
 use Rattle.dump_text.proofs.keep.place_on.Goals as goal
 
 pub index_space-span-requires : goal.index_space-span-requires
@@ -17,5 +17,5 @@ returns-clause-field c =
 
 pub returns-clause-near : goal.returns-clause-near
 returns-clause-near c =
-    near_where_one c.centring_of-centring.result c.level_at.result.now.boxes c.index_space-span.result
-    (c.requires.kept.bounded.levels c.args.level c.level_at.result.now c.level_at.ensures).limits.boxes c.index_space-span.ensures
+    level_near c.centring_of-centring.result c.level_at.result.now c.index_space-span.result
+    (c.requires.kept.bounded.levels c.args.level c.level_at.result.now c.level_at.ensures).limits c.index_space-span.ensures

@@ -3,7 +3,7 @@ use Rattle.std.proofs.lemmas.Int.{to_z-of_z}
 use Rattle.uts_geom.specs.Centrings.{is_point_like}
 use Rattle.uts_geom.specs.declared.centring.Axis.TheVariants.{X, Y, Z}
 use Rattle.ghost_rules.specs.Windows.{along, window_begin, window_end}
-use Rattle.ghost_rules.proofs.Near.{few_along}
+use Rattle.ghost_rules.specs.FewLayers.{few_along}
 use Rattle.ghost_rules.proofs.windows.window.Goals as goal
 
 pub bounds-z-requires-clause-few : goal.bounds-z-requires-clause-few

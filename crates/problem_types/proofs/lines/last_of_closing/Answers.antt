@@ -1,5 +1,6 @@
 use Rattle.std.proofs.Common.{◌∙◌, sym, map, [], ◌∷◌}
-use Rattle.problem_types.proofs.Ascent.{followed, next_line}
+use Rattle.problem_types.specs.Ascent.{followed}
+use Rattle.problem_types.proofs.Ascent.{next_line}
 use Rattle.problem_types.proofs.lines.last_of_closing.Goals as goal
 
 pub returns : goal.returns

@@ -2,7 +2,7 @@ use Rattle.std.proofs.Common.{arith, ◌≡◌, rules, w64, FitsSigned}
 use Rattle.std.proofs.lemmas.Int.{to_z-of_z}
 use Rattle.std.specs.Int.{int_gap}
 use Rattle.uts_geom.specs.Spans.{width_of, height_of}
-use Rattle.uts_geom.proofs.Places.{get-inside}
+use Rattle.uts_geom.specs.Places.{get-inside}
 use Rattle.uts_geom.proofs.Walking.{inside_near}
 use Rattle.uts_geom.proofs.sizes.offset_in.Goals as goal
 

@@ -2,7 +2,7 @@ use Rattle.std.proofs.Common.{arith, ◌≡◌, refl, true}
 use Rattle.std.specs.Prelude.{int_lt}
 use Rattle.std.proofs.lemmas.Int.{ints, to_z-of_z}
 use Rattle.uts_geom.specs.Spans.{height_of, depth_of}
-use Rattle.uts_geom.proofs.Places.{length-rows}
+use Rattle.uts_geom.specs.Places.{length-rows}
 use Rattle.uts_geom.proofs.sizes.row_count.Goals as goal
 
 pub returns-then-s-clause-rows : goal.returns-then-s-clause-rows

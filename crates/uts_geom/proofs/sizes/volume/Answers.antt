@@ -1,7 +1,7 @@
 use Rattle.std.proofs.Common.{arith, ◌≡◌, refl}
 use Rattle.std.proofs.lemmas.Int.{to_z-of_z}
 use Rattle.uts_geom.specs.Spans.{width_of, height_of, depth_of}
-use Rattle.uts_geom.proofs.Places.{length-indexes}
+use Rattle.uts_geom.specs.Places.{length-indexes}
 use Rattle.uts_geom.proofs.sizes.volume.Goals as goal
 
 pub returns : goal.returns

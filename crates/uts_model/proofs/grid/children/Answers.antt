@@ -2,9 +2,10 @@ use Rattle.std.proofs.Common.{◌≡◌, ◌∙◌, ap, ℤ, pos, ◌+◌, rules
 use Rattle.std.proofs.lemmas.Int.{to_z-of_z}
 use Rattle.uts_geom.specs.Spans.{indexes_of, meet_of, IsNearSpan}
 use Rattle.uts_geom.specs.declared.span.Span.{Span}
+use Rattle.uts_geom.specs.Near.{meet_near}
 use Rattle.problem_types.specs.Regions.{ratio_of}
 use Rattle.uts_model.specs.Grids.{all_children}
-use Rattle.uts_model.proofs.Children.{indexes-children, all_near, meet_near}
+use Rattle.uts_model.proofs.Children.{indexes-children, all_near}
 use Rattle.uts_model.proofs.grid.children.Goals as goal
 use Rattle.uts_model.proofs.grid.children.Goals.{After-meet}
 

@@ -1,7 +1,8 @@
 use Rattle.std.proofs.Common.{◌≡◌, ◌∙◌, sym, [], ◌∷◌}
 use Rattle.uts_geom.specs.Spans.{is_inside}
 use Rattle.problem_types.specs.Regions.{spaces_of}
-use Rattle.uts_model.proofs.LevelSpaces.{IsOnGridSpan, level_on_grid, near_span, inside_on_grid, spaces_at, on_level_at, inside_one, indexes_of_one}
+use Rattle.problem_types.specs.NearSpaces.{IsOnGridSpan, level_on_grid, near_span}
+use Rattle.uts_model.proofs.LevelSpaces.{inside_on_grid, spaces_at, on_level_at, inside_one, indexes_of_one}
 use Rattle.uts_model.proofs.grid.space.Goals as goal
 use Rattle.uts_model.proofs.grid.space.Goals.{After-index_space}
 

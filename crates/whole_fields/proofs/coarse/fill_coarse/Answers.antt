@@ -3,8 +3,8 @@ use Rattle.std.specs.Prelude.{slice_index_or, slice_set}
 use Rattle.std.specs.Int.{int_div_euclid}
 use Rattle.std.proofs.lemmas.Int.{to_z-of_z}
 use Rattle.std.proofs.lemmas.List.Edits.{fill_by_more}
+use Rattle.uts_geom.specs.ByPlace.{listed_by}
 use Rattle.whole_fields.specs.Views.{number_along}
-use Rattle.whole_fields.proofs.Lists.{listed_by}
 use Rattle.whole_fields.proofs.OnRows.{next_x, x_fits}
 use Rattle.whole_fields.proofs.Seen.{along_saturated}
 use Rattle.whole_fields.proofs.coarse.fill_coarse.Goals as goal

@@ -4,7 +4,7 @@ use Rattle.uts_geom.specs.declared.index.Index.{Index}
 use Rattle.uts_geom.specs.declared.span.Span.{Span}
 use Rattle.uts_geom.specs.Rows.{rows_left}
 use Rattle.uts_geom.specs.Spans.{is_inside, rows_of, IsNearSpan}
-use Rattle.field_box.specs.Near.{meet_near}
+use Rattle.uts_geom.specs.Near.{meet_near}
 use Rattle.field_box.specs.WalkedRows.{row_walked}
 use Rattle.field_box.proofs.PartRows.{IsCopied, none_copied, next_copied, all_copied}
 use Rattle.field_box.proofs.field.Field.copy_part.Goals as goal

@@ -5,7 +5,8 @@ use Rattle.std.proofs.lemmas.List.{take_at}
 use Rattle.std.proofs.lemmas.Option.{slice_get_within}
 use Rattle.uts_geom.specs.declared.index.Index.{Index}
 use Rattle.uts_geom.specs.Spans.{indexes_of}
-use Rattle.field_box.specs.Fields.{NumberedSpan, IsField, is_same_index, number_at}
+use Rattle.uts_geom.specs.SameIndexes.{is_same_index}
+use Rattle.field_box.specs.Fields.{NumberedSpan, IsField, number_at}
 use Rattle.field_box.proofs.Stretches.{one_set}
 use Rattle.field_box.proofs.field.Field.set.Goals as goal
 

@@ -4,8 +4,8 @@ use Rattle.std.proofs.lemmas.Int.{to_z-of_z}
 use Rattle.std.proofs.lemmas.List.{length-map, length-replicate}
 use Rattle.uts_geom.specs.declared.index.Index.{Index}
 use Rattle.uts_geom.specs.Spans.{index, is_inside}
+use Rattle.uts_geom.specs.ByPlace.{length-by_place}
 use Rattle.field_box.specs.Fields.{HoldsAlong, along, number_at}
-use Rattle.field_box.specs.ByPlace.{length-by_place}
 use Rattle.ghost_gather.specs.Windows.{WindowData, number_seen}
 use Rattle.ghost_gather.proofs.Filled.{below_end, none_between, row_beside, is_stored, put_between}
 use Rattle.ghost_gather.proofs.window.Window.fill.Goals as goal

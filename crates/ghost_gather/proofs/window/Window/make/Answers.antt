@@ -3,8 +3,8 @@ use Rattle.std.proofs.lemmas.Int.{to_z-of_z}
 use Rattle.uts_geom.specs.declared.index.Index.{Index}
 use Rattle.uts_geom.specs.declared.span.Span.{Span}
 use Rattle.uts_geom.specs.Spans.{is_inside, indexes_of, meet_of, IsNearSpan}
+use Rattle.uts_geom.specs.Near.{meet_near}
 use Rattle.field_box.specs.Fields.{IsField}
-use Rattle.field_box.specs.Near.{meet_near}
 use Rattle.ghost_gather.specs.Storing.{IsStored}
 use Rattle.ghost_gather.specs.Windows.{IsWindow}
 use Rattle.ghost_gather.proofs.Seen.{all_blank}

@@ -2,7 +2,7 @@ use Rattle.std.proofs.Common.{◌≡◌, ◌∙◌, length, replicate, sym, rule
 use Rattle.std.proofs.lemmas.Simd.{map-map, splat_is_map}
 use Rattle.uts_geom.specs.Spans.{index, from_to}
 use Rattle.uts_geom.specs.declared.index.Index.{Index}
-use Rattle.field_box.specs.ByPlace.{length-from_to}
+use Rattle.uts_geom.specs.Places.{length-from_to}
 use Rattle.kernel_sweeps.proofs.tests.HeightsReads.fill.Goals as goal
 
 pub returns : goal.returns

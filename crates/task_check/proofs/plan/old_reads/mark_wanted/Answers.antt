@@ -1,7 +1,8 @@
 use Rattle.std.proofs.Common.{arith, ◌<◌, ◌∙◌, Bool, length, ap, sym}
 use Rattle.std.specs.Prelude.{◌||◌}
+use Rattle.uts_geom.specs.Lists.{placed}
 use Rattle.task_check.specs.Marks.{is_marked}
-use Rattle.task_check.proofs.Accepted.{few_levels, keeps_grid_limits, placed}
+use Rattle.task_check.proofs.Accepted.{few_levels, keeps_grid_limits}
 use Rattle.task_check.proofs.Details.{patches_at}
 use Rattle.task_check.proofs.OldWindows.{wanted_by_box}
 use Rattle.task_check.proofs.plan.old_reads.mark_wanted.Goals as goal

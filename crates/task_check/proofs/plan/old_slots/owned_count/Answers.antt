@@ -4,7 +4,8 @@ use Rattle.uts_geom.specs.declared.span.Span.{Span}
 use Rattle.problem_types.specs.Levels.{KeepsGridLimits}
 use Rattle.patch_regions.specs.Regions.{owned_span}
 use Rattle.task_check.proofs.Accepted.{keeps_grid_limits}
-use Rattle.task_check.proofs.Volumes.{owned_near, owned_on_grid, few_indexes}
+use Rattle.patch_regions.specs.OnGrid.{owned_near}
+use Rattle.task_check.proofs.Volumes.{owned_lies, few_indexes}
 use Rattle.task_check.proofs.plan.old_slots.owned_count.Goals as goal
 
 pub owned-requires-clause-limits : goal.owned-requires-clause-limits
@@ -24,5 +25,5 @@ returns-clause-few c =
       arith,
       is,
       few_indexes (owned_span c.args.c c.level_at.result.now c.args.patch)
-          (owned_on_grid c.args.c c.level_at.result.now c.args.patch limits (c.requires.patch c.level_at.result.now c.level_at.ensures)),
+          (owned_lies c.args.c c.level_at.result.now c.args.patch limits (c.requires.patch c.level_at.result.now c.level_at.ensures)),
     )

@@ -6,7 +6,8 @@ use Rattle.patch_regions.specs.Regions.{owned_span}
 use Rattle.task_check.specs.Counts.{owned_count}
 use Rattle.task_check.proofs.Accepted.{keeps_grid_limits}
 use Rattle.task_check.proofs.Sums.{sum-counted_more}
-use Rattle.task_check.proofs.Volumes.{owned_near, owned_on_grid, few_indexes}
+use Rattle.patch_regions.specs.OnGrid.{owned_near}
+use Rattle.task_check.proofs.Volumes.{owned_lies, few_indexes}
 use Rattle.task_check.proofs.Written.{owned_at}
 use Rattle.task_check.proofs.plan.slots.owned_on.Goals as goal
 
@@ -31,7 +32,7 @@ here c =
     let is : c.volume-total.result ≡ length (indexes_of (owned_span c.args.c c.level_at-l.result.now c.loop-patch.patch)) =
     c.volume-total.ensures ∙ ap (λ (s : Span). length (indexes_of s)) c.owned.ensures in (
       is ∙ owned_at c.args.p.now c.args.c c.args.level c.level_at-l.result.now c.loop-patch.patch c.level_at-l.ensures,
-      omega (arith, is, few_indexes (owned_span c.args.c c.level_at-l.result.now c.loop-patch.patch) (owned_on_grid c.args.c c.level_at-l.result.now c.loop-patch.patch limits below)),
+      omega (arith, is, few_indexes (owned_span c.args.c c.level_at-l.result.now c.loop-patch.patch) (owned_lies c.args.c c.level_at-l.result.now c.loop-patch.patch limits below)),
     )
 
 few_here : (c : goal.After-volume-total) → c.loop-patch.patch < 1024

@@ -7,7 +7,7 @@ use Rattle.problem_types.specs.declared.problem.Level.{Level}
 use Rattle.task_check.proofs.Accepted.{keeps_grid_limits}
 use Rattle.task_check.proofs.Ratios.{ratio_within}
 use Rattle.task_check.proofs.OldWindows.{only_box, cells_are, same_together, coarse_together, fine_together}
-use Rattle.task_check.proofs.Volumes.{space_near}
+use Rattle.problem_types.specs.NearSpaces.{space_near}
 use Rattle.task_check.proofs.plan.windows.box_window.Goals as goal
 
 pub index_space-requires : goal.index_space-requires

@@ -4,10 +4,10 @@ use Rattle.std.proofs.lemmas.Int.{to_z-of_z}
 use Rattle.std.proofs.lemmas.List.{length-replicate, get_or-replicate}
 use Rattle.uts_geom.specs.declared.index.Index.{Index}
 use Rattle.uts_geom.specs.Spans.{index}
+use Rattle.uts_geom.specs.ByPlace.{listed_by}
 use Rattle.reductions.specs.Folding.{all_combined, combined, identity_of}
 use Rattle.whole_fields.specs.Children.{children_in}
 use Rattle.whole_fields.specs.Views.{number_in}
-use Rattle.whole_fields.proofs.Lists.{listed_by}
 use Rattle.whole_fields.proofs.OnRows.{on_row}
 use Rattle.whole_fields.proofs.fine.FineFold.fill.Goals as goal
 

@@ -13,7 +13,7 @@ use Rattle.uts_geom.specs.declared.index.Index.{Index}
 use Rattle.uts_geom.specs.declared.span.Span.{Span}
 use Rattle.uts_geom.specs.Spans.{index, is_between, is_inside, counted, from_to, by_rows, row_indexes, indexes_of, all_rows, rows_of, width_of, height_of, depth_of}
 use Rattle.uts_geom.specs.Counting.{length-counted, get-counted}
-use Rattle.uts_geom.proofs.Pieces.{length-pieces, get-pieces}
+use Rattle.uts_geom.specs.Pieces.{length-pieces, get-pieces}
 
 pub length-from_to : (low high : ℤ) → length (from_to low high) ≡ int_gap low high
 length-from_to low high = length-map (counted 0 (int_gap low high)) (λ k. low +ℤ pos k) ∙ length-counted 0 (int_gap low high)
@@ -34,10 +34,10 @@ gap_reaches low high n between = grind (arith, ints)
 pub between_above : (low high : ℤ) (k : ℕ) → k < int_gap low high → is_between low high (low +ℤ pos k) ≡ true
 between_above low high k below = grind (arith, ints)
 
-length-row : (s : Span) (y z : ℤ) → length (row_indexes s y z) ≡ width_of s
+pub length-row : (s : Span) (y z : ℤ) → length (row_indexes s y z) ≡ width_of s
 length-row s y z = length-map (from_to s.lo.x s.hi.x) (λ x. index x y z) ∙ length-from_to s.lo.x s.hi.x
 
-get-row : (s : Span) (y z : ℤ) (a : ℕ) → a < width_of s → slice_get (row_indexes s y z) a ≡ Some (index (s.lo.x +ℤ pos a) y z)
+pub get-row : (s : Span) (y z : ℤ) (a : ℕ) → a < width_of s → slice_get (row_indexes s y z) a ≡ Some (index (s.lo.x +ℤ pos a) y z)
 get-row s y z a below =
     slice_get-map (λ (x : ℤ). index x y z) (from_to s.lo.x s.hi.x) a ∙ ap (option_map (λ (x : ℤ). index x y z)) (get-from_to s.lo.x s.hi.x a below)
 

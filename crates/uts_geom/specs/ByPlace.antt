@@ -1,11 +1,8 @@
--- Lists that a function gives at the places from 0 up, ranges of numbers among them, and three lists joined.
-use Rattle.std.proofs.Common.{◌≡◌, ◌∙◌, ◌≤◌, ◌<◌, ◌-◌, ℕ, ℤ, pos, ◌+ℤ◌, List, ◌++◌, length, map, get_or, ◌+◌, Some, refl, ap, sym, arith}
-use Rattle.std.specs.Prelude.{slice_get}
-use Rattle.std.specs.Int.{int_gap}
-use Rattle.std.specs.Option.{option_map}
+-- Lists that a function gives at the places from 0 up, and three lists joined.
+use Rattle.std.proofs.Common.{◌≡◌, ◌∙◌, ◌≤◌, ◌<◌, ◌-◌, ℕ, List, ◌++◌, length, map, get_or, ◌+◌, refl, ap, sym, arith}
 use Rattle.std.proofs.lemmas.List.{ext_get_or, length-map, get_or-map, get_or_append_left, get_or-append_right}
-use Rattle.std.proofs.lemmas.Option.{get_or_from_slice_get, slice_get-map}
-use Rattle.uts_geom.specs.Spans.{counted, from_to}
+use Rattle.std.proofs.lemmas.Option.{get_or_from_slice_get}
+use Rattle.uts_geom.specs.Spans.{counted}
 use Rattle.uts_geom.specs.Counting.{length-counted, get-counted}
 
 pub length-by_place : {A : Type 0} (f : ℕ → A) (n : ℕ) → length (map f (counted 0 n)) ≡ n
@@ -22,16 +19,6 @@ listed_by f n items d long each =
     ext_get_or d items (map f (counted 0 n)) (long ∙ sym (length-by_place f n)) (λ k below.
     let within : k < n = omega (arith, long) in
     each k within ∙ sym (get-by_place f n k d within))
-
--- the numbers of a range
-pub length-from_to : (low high : ℤ) → length (from_to low high) ≡ int_gap low high
-length-from_to low high = length-by_place (λ k. low +ℤ pos k) (int_gap low high)
-
-pub get-from_to : (low high : ℤ) (k : ℕ) → k < int_gap low high → slice_get (from_to low high) k ≡ Some (low +ℤ pos k)
-get-from_to low high k below =
-    slice_get-map (λ (j : ℕ). low +ℤ pos j) (counted 0 (int_gap low high)) k
-    ∙ ap (option_map (λ (j : ℕ). low +ℤ pos j)) (get-counted 0 (int_gap low high) k below)
-    ∙ ap (λ (j : ℕ). Some (low +ℤ pos j)) (let e : 0 + k ≡ k = omega arith in e)
 
 -- an item of three lists joined
 pub first_of_three : {A : Type 0} (front middle back : List A) (d : A) (k : ℕ) → k < length front → get_or (front ++ (middle ++ back)) k d ≡ get_or front k d
