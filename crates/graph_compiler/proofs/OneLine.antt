@@ -17,27 +17,12 @@ use Rattle.task_check.specs.declared.fault.FaultKind.TheVariants as kind
 use Rattle.task_check.specs.Faults.{of_write}
 use Rattle.task_check.specs.First.{IsAccepted, IsFaultless}
 use Rattle.task_check.specs.Lines.{IsWrittenBefore}
+use Rattle.task_check.specs.LinesAt.{IsLineAt, line_there}
 use Rattle.task_check.specs.Plan.{Slot, is_line_of, line_is}
 use Rattle.graph_compiler.specs.Places.{StandsAt}
 use Rattle.graph_compiler.specs.Slots.{AreOnce}
 use Rattle.graph_compiler.proofs.Standing.{slots_stand_once}
 use Rattle.graph_compiler.proofs.ValidForward.{reduced_once}
-
--- a line of a task at its place, of this name and such a kind
-pub record IsLineAt (tasks : List Task) (test : Write → Bool) (name task line : ℕ) : Type 0 where
-  pub t : Task
-  pub w : Write
-  pub task_at : slice_get tasks task ≡ Some t
-  pub line_at : slice_get t.writes line ≡ Some w
-  pub named : w.name ≡ name
-  pub passes : test w ≡ true
-
-pub line_there : (tasks : List Task) (test : Write → Bool) (name task line : ℕ) → is_line_of tasks test name task line ≡ true → IsLineAt tasks test name task line
-line_there tasks test name task line is =
-    let t = of_option (λ (t : Task). line_is t.writes (λ w. (w.name == name) && test w) line) (slice_get tasks task) is in
-    let w = of_option (λ (w : Write). (w.name == name) && test w) (slice_get t.0.writes line) t.2 in
-    let two = and_parts (w.0.name == name) (test w.0) w.2 in
-    record { t = t.0; w = w.0; task_at = t.1; line_at = w.1; named = eqb-true w.0.name name two.0; passes = two.1 }
 
 module _ (p : Problem) (faultless : IsFaultless p) (list : ℕ) (of_two : list < 2) where
   abbrev tasks : List Task

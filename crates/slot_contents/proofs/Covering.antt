@@ -33,8 +33,10 @@ use Rattle.task_check.specs.Plan.{OnPatch, Slot, Old, OldNumber, New, Number, de
 use Rattle.slot_contents.specs.Contents.{owned_on}
 use Rattle.slot_contents.specs.Laws.{HasIndex, HasNumber, IsTaskOf, NumbersAreRead, RunsAt, WindowsAreCovered}
 use Rattle.slot_contents.proofs.Earlier.{computed_earlier, known_reduction, known_variable, reduced_earlier, requirement_bounded, runs_there, task_bounded}
-use Rattle.slot_contents.proofs.Lines.{IsLine, found_line, is_line}
-use Rattle.slot_contents.proofs.Listed.{IsLast, is_some-find, last_of, passing}
+use Rattle.task_check.specs.LinesAt.{IsLineAt, is_line}
+use Rattle.slot_contents.proofs.Lines.{found_line}
+use Rattle.task_check.specs.LastOnes.{Lasts, last_of}
+use Rattle.slot_contents.proofs.Listed.{is_some-find, passing}
 use Rattle.slot_contents.proofs.Owned.{nowhere}
 use Rattle.slot_contents.proofs.Slots.{in_old_numbers, in_old_variables, length-patches, new_stands, number_stands, old_stands, on_patch_stands, read_by, wanted_is_read, wants_number, wants_variable}
 
@@ -93,7 +95,7 @@ module _ (tasks : List Task) (place name material level : ℕ) where
     pub of_levels : Contains t.levels level
     pub of_materials : Contains t.materials material
     pub line : ℕ
-    pub line_is : IsLine tasks (λ w. is_of_field w.kind) name task line
+    pub line_is : IsLineAt tasks (λ w. is_of_field w.kind) name task line
 
   computing_writes : (t : Task) → (runs_on t material level && list_any (λ w. (w.name == name) && is_computes w.kind) t.writes) ≡ true → writes_it t ≡ true
   computing_writes t is =
@@ -103,12 +105,12 @@ module _ (tasks : List Task) (place name material level : ℕ) where
       let both = and_parts (w.name == name) (is_computes w.kind) passes in
       and_from (w.name == name) (is_of_field w.kind) both.0 (computes_field w.kind both.1)) t.writes two.1)
 
-  of_last : IsLast writes_it (take place tasks) → Writer
+  of_last : Lasts writes_it (take place tasks) → Writer
   of_last last =
-      let writer = last.found.place in
-      let t = last.found.item in
-      let there = from_take tasks place writer t last.found.at in
-      let two = and_parts (runs_on t material level) (is_some (find is_it t.writes)) last.found.passes in
+      let writer = last.0 in
+      let t = last.1 in
+      let there = from_take tasks place writer t last.2.stands in
+      let two = and_parts (runs_on t material level) (is_some (find is_it t.writes)) last.2.passes in
       let runs = and_parts (list_any (λ m. m == material) t.materials) (list_any (λ l. l == level) t.levels) two.0 in
       let line = found_line tasks (λ w. is_of_field w.kind) name writer t there.1 two.1 in
       let later = list_any writes_it (drop (writer + 1) (take place tasks)) in
@@ -118,7 +120,7 @@ module _ (tasks : List Task) (place name material level : ℕ) where
         task_at = there.1;
         last = and_from (nat_lt writer place) (option_map_or writes_it (slice_get tasks writer) false && not later) (lt-ltb writer place there.0)
             (and_from (option_map_or writes_it (slice_get tasks writer) false) (not later)
-            (ap (λ (o : Option Task). option_map_or writes_it o false) there.1 ∙ last.found.passes) (not_from_false later last.none_after));
+            (ap (λ (o : Option Task). option_map_or writes_it o false) there.1 ∙ last.2.passes) (not_from_false later last.2.none_after));
         of_levels = contained t.levels level runs.1;
         of_materials = contained t.materials material runs.0;
         line = line.0;

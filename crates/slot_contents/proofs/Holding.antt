@@ -18,7 +18,8 @@ use Rattle.slot_contents.specs.Contents.{name_at, number_held, numbers_held, sto
 use Rattle.slot_contents.specs.Laws.{IsTaskOf, NumbersHoldWhatStood, OutsideStandsOutside, SlotsHoldWhatStood}
 use Rattle.graph_compiler.specs.Slots.{AreOnce, SlotsStandOnce}
 use Rattle.slot_contents.proofs.Earlier.{list_of, not_first, of_two, reduced_earlier, same_list}
-use Rattle.slot_contents.proofs.Lines.{found_line, is_line, line_there, name_of_line}
+use Rattle.task_check.specs.LinesAt.{is_line, line_there}
+use Rattle.slot_contents.proofs.Lines.{found_line, name_of_line}
 use Rattle.slot_contents.proofs.Listed.{passing}
 use Rattle.slot_contents.proofs.Unwritten.{between, field_kept, outside_at, outside_at_end, reduction_kept}
 

@@ -9,7 +9,7 @@ use Rattle.std.proofs.lemmas.List.Folds.{Any-from_list_any, list_any_at}
 use Rattle.std.proofs.lemmas.Option.{get_or_from_slice_get, slice_get-get_or, slice_get-map, slice_get_within}
 use Rattle.uts_geom.specs.Spans.{counted}
 use Rattle.uts_geom.specs.Counting.{counted-at}
-use Rattle.uts_geom.specs.Lists.{any_at, contains_at, place_in}
+use Rattle.uts_geom.specs.Lists.{any_at, at_place, contains_at, place_in}
 
 pub in_counted : (n k : ℕ) → k < n → Contains (counted 0 n) k
 in_counted n k below = contains_at (counted 0 n) k k (counted-at n k below)
@@ -57,8 +57,7 @@ pub record Passes {A : Type 0} (test : A → Bool) (xs : List A) : Type 0 where
 
 pub passing : {A : Type 0} (test : A → Bool) (xs : List A) → list_any test xs ≡ true → Passes test xs
 passing test xs some =
-    let there = Any-from_list_any test xs some in
-    record { place = there.0; item = there.1; at = slice_get-get_or xs there.0 there.1 there.2 ∙ ap Some there.3; passes = there.4 }
+    let there = at_place test xs some in record { place = there.0; item = there.1; at = there.2; passes = there.3 }
 
 -- something is found exactly where something passes
 pub is_some-find : {A : Type 0} (test : A → Bool) (xs : List A) → is_some (find test xs) ≡ list_any test xs
@@ -80,25 +79,3 @@ find_only {A} test (y ∷ ys) (suc k) x at passes only =
     ap (λ (b : Bool). cond b (Some y) (find test ys)) (false_from_ne_true (test y) (λ yes. let first = only 0 y refl yes in omega (arith, first)))
     ∙ find_only test ys k x at passes (λ j z z_at z_passes. let same = only (suc j) z z_at z_passes in omega (arith, same))
 
--- ---- parts of lists
-
--- the last of a list that passes a test
-pub record IsLast {A : Type 0} (test : A → Bool) (xs : List A) : Type 0 where
-  pub found : Passes test xs
-  pub none_after : list_any test (drop (found.place + 1) xs) ≡ false
-
-pub last_of : {A : Type 0} (test : A → Bool) (xs : List A) → list_any test xs ≡ true → IsLast test xs
-last_of test [] some = absurd cc
-last_of {A} test (x ∷ xs) some = by_rest (list_any test xs) refl (last_of test xs)
-  where
-    here : list_any test xs ≡ false → test x ≡ true
-    here none = elim (or_cases (test x) (list_any test xs) some) [ inl first ↦ first | inr later ↦ absurd cc ]
-
-    by_rest : (b : Bool) → list_any test xs ≡ b → (list_any test xs ≡ true → IsLast test xs) → IsLast test (x ∷ xs)
-    by_rest true is rest =
-        let last = rest is in
-        record {
-          found = record { place = suc last.found.place; item = last.found.item; at = last.found.at; passes = last.found.passes };
-          none_after = subst (λ (n : ℕ). list_any test (drop n (x ∷ xs)) ≡ false) (let e : suc (last.found.place + 1) ≡ suc last.found.place + 1 = omega arith in e) last.none_after;
-        }
-    by_rest false none rest = record { found = record { place = 0; item = x; at = refl; passes = here none }; none_after = none }

@@ -29,7 +29,8 @@ use Rattle.slot_contents.proofs.Combined.{combined_alike, combined_parts}
 use Rattle.slot_contents.proofs.Earlier.{runs_there}
 use Rattle.slot_contents.proofs.Holding.{once_of}
 use Rattle.slot_contents.proofs.Joined.{flat_map_same, map-flat_map, map_same}
-use Rattle.slot_contents.proofs.Lines.{IsLine, only_line}
+use Rattle.task_check.specs.LinesAt.{IsLineAt}
+use Rattle.slot_contents.proofs.Lines.{only_line}
 use Rattle.slot_contents.proofs.NextTask.{field_next, reduction_next}
 use Rattle.slot_contents.proofs.Owned.{owned_in_space, owned_together}
 use Rattle.slot_contents.proofs.Parts.{parts_of, parts_stand}
@@ -37,7 +38,7 @@ use Rattle.slot_contents.proofs.Parts.{parts_of, parts_stand}
 pub kernels_make : AcceptedProblemsAreBounded → SlotsStandOnce → OwnedSpansTile → KernelsMakeFields
 kernels_make bounded stand_once tile p step task line t w level material patch i here line_at of_field runs owned =
     let once = once_of p step task t stand_once here in
-    let l : IsLine (task_list p step) (λ v. is_of_field v.kind) w.name task line = record { t = t; w = w; task_at = here.stands; line_at = line_at; named = refl; passes = of_field } in
+    let l : IsLineAt (task_list p step) (λ v. is_of_field v.kind) w.name task line = record { t = t; w = w; task_at = here.stands; line_at = line_at; named = refl; passes = of_field } in
     sym (field_next p step task t here.stands w.name w material level i
     (owned_in_space p level patch (centring_of p w.name) i (bounded p here.form here.accepted) tile runs.patch_there owned)
     (runs_there t level material runs.level_there runs.material_there)
@@ -96,7 +97,7 @@ pub parts_make : AcceptedProblemsAreBounded → SlotsStandOnce → OwnedSpansTil
     → ((s : Span) (i : Index) → Contains (indexes_of_span s) i ↔ IsTrue (is_inside s i)) → ((s : Span) → AllPairs ◌≢◌ (indexes_of_span s)) → PartsMakeReductions
 parts_make bounded stand_once tile apart order holds once_in_span p step task line t w here line_at reduces =
     let once = once_of p step task t stand_once here in
-    let l : IsLine (task_list p step) (λ v. is_reduces v.kind) w.name task line = record { t = t; w = w; task_at = here.stands; line_at = line_at; named = refl; passes = reduces } in
+    let l : IsLineAt (task_list p step) (λ v. is_reduces v.kind) w.name task line = record { t = t; w = w; task_at = here.stands; line_at = line_at; named = refl; passes = reduces } in
     ap (λ (slots : List Slot). all_combined (fold_of p w.name) (map (number_held p step) slots)) (parts_stand p (task_list p step) task line t w here.stands line_at reduces)
     ∙ (ap (all_combined (fold_of p w.name)) (parts_held p step task line t w here.stands line_at)
     ∙ (shares_combined p step task line t w here.stands line_at apart order tile (bounded p here.form here.accepted) holds once_in_span

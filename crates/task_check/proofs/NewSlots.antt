@@ -8,6 +8,7 @@ use Rattle.std.proofs.lemmas.Bool.{cases_order, eqb-true}
 use Rattle.kernel_ast.specs.declared.expression.Store.TheVariants as store
 use Rattle.uts_geom.specs.Spans.{counted}
 use Rattle.uts_geom.specs.Lists.{from_take, get-take, at_place, found_at, place_of_found}
+use Rattle.task_check.specs.LastOnes.{IsLast, last_of}
 use Rattle.problem_types.specs.Lists.{runs_on, field_write, reduction_write, is_of_field, is_reduces}
 use Rattle.problem_types.specs.declared.problem.Problem.{Problem}
 use Rattle.problem_types.specs.declared.problem.Task.{Task}
@@ -18,7 +19,7 @@ use Rattle.task_rules.specs.Lines.{reduces}
 use Rattle.task_check.specs.Plan.{Slot, patches_of, patch_of, line_is, details_of, slot_written, written_by, has_variable, has_number, writes_variable, is_last_writer, is_line_of}
 use Rattle.task_check.specs.PlanSums.{by_place}
 use Rattle.task_check.proofs.Sums.{sum-same, sum-nothing, sum-one}
-use Rattle.task_check.proofs.AtPlaces.{one_by_order, count-in_ascent, IsLast, last_of, none_later}
+use Rattle.task_check.proofs.AtPlaces.{one_by_order, count-in_ascent, none_later}
 use Rattle.task_check.proofs.Once.{both, of_both}
 use Rattle.task_check.proofs.PlanSums.{by_place-same, by_place-one, by_place-nothing, count-one_place, sum-all_written, written_on_patches, written_combined}
 use Rattle.task_check.proofs.OldSlots.{nothing_written_on_patches, nothing_combined, gated, middle_out}

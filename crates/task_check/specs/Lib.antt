@@ -17,3 +17,5 @@ pub mod Tallies
 pub mod Sizes
 pub mod Laws
 pub mod Bounds
+pub mod LastOnes
+pub mod LinesAt
