@@ -1,23 +1,18 @@
 -- Where the indexes of a span stand.
-use Rattle.std.proofs.Common.{◌≡◌, ◌≢◌, ◌∙◌, ◌<◌, ◌+◌, ◌-◌, inl, inr, ℕ, zero, suc, ℤ, pos, ◌+ℤ◌, List, [], ◌∷◌, ◌++◌, length, get_or, true, Option, Some, refl, ap, sym, arith}
-use Rattle.std.specs.Prelude.{◌&&◌, ◌↔◌, IsTrue, AllPairs, Contains, slice_get, slice_index_or, int_lt, position}
-use Rattle.std.specs.Bool.{Decides}
+use Rattle.std.proofs.Common.{◌≡◌, ◌≢◌, ◌∙◌, ◌<◌, ◌+◌, ◌-◌, inl, inr, ℕ, zero, suc, ℤ, pos, ◌+ℤ◌, List, [], ◌∷◌, ◌++◌, length, true, Option, Some, ap, sym, arith}
+use Rattle.std.specs.Prelude.{◌↔◌, IsTrue, AllPairs, Contains, slice_get, slice_index_or, int_lt}
 use Rattle.std.specs.Int.{int_gap}
-use Rattle.std.specs.List.{flat_map, position_or_len}
-use Rattle.std.specs.Option.{option_map, option_map_or}
-use Rattle.std.specs.Ordering.{int_eq}
-use Rattle.std.proofs.lemmas.Bool.{cases_lt, lt-ltb, false_from_ne_true}
-use Rattle.std.proofs.lemmas.Bool.Decides.{Decides-int_eq, Decides-and, Decides-like}
+use Rattle.std.specs.List.{flat_map}
+use Rattle.std.specs.Option.{option_map_or}
+use Rattle.std.proofs.lemmas.Bool.{cases_lt}
 use Rattle.std.proofs.lemmas.Int.{ints}
-use Rattle.std.proofs.lemmas.List.{length-map}
-use Rattle.std.proofs.lemmas.List.Sums.{position_or_len_is}
-use Rattle.std.proofs.lemmas.Option.{same_Some, slice_get-map, slice_get_within, get_or_from_slice_get, slice_get-get_or}
+use Rattle.std.proofs.lemmas.Option.{same_Some, slice_get_within, slice_get-get_or}
 use Rattle.uts_geom.specs.declared.index.Index.{Index}
 use Rattle.uts_geom.specs.declared.span.Span.{Span}
 use Rattle.uts_geom.specs.Spans.{index, from_to, is_inside, row_indexes, indexes_of, width_of}
 use Rattle.uts_geom.specs.Counting.{get_left, get_right}
-use Rattle.uts_geom.specs.Places.{get-from_to, length-from_to, get-row, length-row}
-use Rattle.uts_geom.specs.SameIndexes.{is_same_index, position_of_index}
+use Rattle.uts_geom.specs.Places.{get-row, length-row}
+use Rattle.uts_geom.specs.SameIndexes.{position_of_index}
 use Rattle.field_box.specs.Fields.{number_at}
 
 module _ (s : Span) (once : AllPairs ◌≢◌ (indexes_of s)) where

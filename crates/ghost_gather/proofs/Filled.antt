@@ -1,5 +1,5 @@
 -- A window along x.
-use Rattle.std.proofs.Common.{◌≡◌, ◌∙◌, ◌≤◌, ◌<◌, ◌+◌, ◌-◌, inl, inr, ℕ, ℤ, pos, ◌+ℤ◌, min, List, ◌++◌, length, map, take, drop, replicate, get_or, Bool, true, false, refl, ap, sym, subst, arith, length-append}
+use Rattle.std.proofs.Common.{◌≡◌, ◌∙◌, ◌≤◌, ◌<◌, ◌+◌, ◌-◌, inl, inr, ℕ, ℤ, pos, ◌+ℤ◌, min, List, ◌++◌, length, map, take, drop, replicate, get_or, true, false, refl, ap, sym, subst, arith, length-append}
 use Rattle.std.specs.Prelude.{◌&&◌, IsTrue, ◌≤ℤ◌}
 use Rattle.std.specs.Int.{int_gap}
 use Rattle.std.proofs.lemmas.Bool.{cases_lt, and_parts, and_from, and_cases, and_left, and_right, true≢false}
@@ -7,7 +7,6 @@ use Rattle.std.proofs.lemmas.Int.{ints}
 use Rattle.std.proofs.lemmas.List.{length-map, length-take, length-drop, length-replicate, get_or-take, get_or-drop, get_or-replicate}
 use Rattle.std.proofs.lemmas.Simd.{map-map}
 use Rattle.uts_geom.specs.declared.index.Index.{Index}
-use Rattle.uts_geom.specs.Counting.{length-counted}
 use Rattle.uts_geom.specs.Spans.{index, counted, is_between, is_inside, IsNearNumber}
 use Rattle.uts_geom.specs.ByPlace.{first_of_three, get-by_place, length-by_place, listed_by, second_of_three, third_of_three}
 use Rattle.field_box.specs.Fields.{HoldsAlong, along, number_at}

@@ -1,10 +1,10 @@
 -- Windows as functions on their spans.
-use Rattle.std.proofs.Common.{◌≡◌, ◌∙◌, inl, inr, ℤ, true, false, Bool, refl, ap, sym, subst}
-use Rattle.std.specs.Prelude.{◌&&◌, IsTrue, if◌then◌else◌}
+use Rattle.std.proofs.Common.{◌∙◌, inl, inr, ℤ, refl}
+use Rattle.std.specs.Prelude.{IsTrue, if◌then◌else◌}
 use Rattle.std.proofs.lemmas.Bool.{cases_Bool, and_from}
 use Rattle.uts_geom.specs.declared.index.Index.{Index}
 use Rattle.uts_geom.specs.declared.span.Span.{Span}
-use Rattle.uts_geom.specs.Spans.{is_inside, meet_of, IsNearSpan}
+use Rattle.uts_geom.specs.Spans.{is_inside, meet_of}
 use Rattle.field_box.specs.Fields.{NumberedSpan, IsField, number_at}
 use Rattle.ghost_gather.specs.Storing.{IsStored}
 use Rattle.ghost_gather.specs.Windows.{WindowData, IsWindow, number_seen}

@@ -1,6 +1,6 @@
 -- An offset is allowed where it leads into the window.
-use Rattle.std.proofs.Common.{◌≡◌, ℕ, ℤ, pos, neg_ℤ, ◌+◌, ◌+ℤ◌, ◌-ℤ◌, ◌≤ℤ◌, ◌<ℤ◌, Bool, true, false, ◌↔◌, refl, subst, sym, arith}
-use Rattle.std.specs.Prelude.{IsTrue, ◌&&◌, if◌then◌else◌}
+use Rattle.std.proofs.Common.{◌≡◌, ℤ, pos, ◌+ℤ◌, ◌≤ℤ◌, ◌<ℤ◌, Bool, true, false, refl, subst, sym, arith}
+use Rattle.std.specs.Prelude.{◌&&◌, if◌then◌else◌}
 use Rattle.std.proofs.lemmas.Int.{ints}
 use Rattle.uts_geom.specs.Spans.{is_between}
 use Rattle.ghost_rules.specs.declared.along.Along.{Along}

@@ -1,13 +1,9 @@
 -- How far few layers reach.
-use Rattle.std.proofs.Common.{◌≤◌, ℕ, ℤ, pos, negsuc, ◌≤ℤ◌, Bool, true, false, arith}
+use Rattle.std.proofs.Common.{pos, negsuc, ◌≤ℤ◌, Bool, true, false, arith}
 use Rattle.std.proofs.lemmas.Int.{ints}
-use Rattle.uts_geom.specs.declared.centring.Axis.{Axis}
-use Rattle.uts_geom.specs.declared.centring.Axis.TheVariants.{X, Y, Z}
-use Rattle.problem_types.specs.declared.problem.GhostKind.{GhostKind}
-use Rattle.problem_types.specs.declared.problem.GhostKind.TheVariants as kind
 use Rattle.ghost_rules.specs.declared.along.Along.{Along}
 use Rattle.ghost_rules.specs.declared.along.Along.TheVariants.{Nothing, Intervals, Points, Own}
-use Rattle.ghost_rules.specs.Windows.{AreFew, layers_along, window_begin, window_end}
+use Rattle.ghost_rules.specs.Windows.{AreFew, window_begin, window_end}
 
 pub begins_near : (a : Along) (point : Bool) → AreFew a → (negsuc 7 ≤ℤ window_begin a point) × (window_begin a point ≤ℤ pos 1)
 begins_near Nothing point few = (omega (arith, ints), omega (arith, ints))

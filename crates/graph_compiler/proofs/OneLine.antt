@@ -1,10 +1,10 @@
 -- In an accepted list each slot stands once, a task writes a variable by one line, and one line reduces a reduction.
-use Rattle.std.proofs.Common.{◌≡◌, ◌∙◌, ◌<◌, ◌⊎◌, inl, inr, ℕ, List, Bool, true, Some, take, ap, sym, refl, subst, eqb-true}
+use Rattle.std.proofs.Common.{◌≡◌, ◌∙◌, ◌<◌, ◌⊎◌, inl, inr, ℕ, List, Bool, true, Some, take, ap, sym, refl, subst}
 use Rattle.std.specs.Prelude.{slice_get, ◌==◌, ◌&&◌}
 use Rattle.std.specs.List.{list_any}
 use Rattle.std.specs.Option.{is_some}
-use Rattle.std.proofs.lemmas.Bool.{and_from, and_parts, cases_order, eq-eqb}
-use Rattle.uts_geom.specs.Lists.{any_at, of_option, get-take, found_at}
+use Rattle.std.proofs.lemmas.Bool.{and_from, cases_order, eq-eqb}
+use Rattle.uts_geom.specs.Lists.{any_at, get-take, found_at}
 use Rattle.problem_types.specs.Form.{IsProblemInForm}
 use Rattle.problem_types.specs.Lists.{is_computes, is_of_field, is_reduces, reduction_write, task_list}
 use Rattle.problem_types.specs.declared.problem.Problem.{Problem}
@@ -18,8 +18,7 @@ use Rattle.task_check.specs.Faults.{of_write}
 use Rattle.task_check.specs.First.{IsAccepted, IsFaultless}
 use Rattle.task_check.specs.Lines.{IsWrittenBefore}
 use Rattle.task_check.specs.LinesAt.{IsLineAt, line_there}
-use Rattle.task_check.specs.Plan.{Slot, is_line_of, line_is}
-use Rattle.graph_compiler.specs.Places.{StandsAt}
+use Rattle.task_check.specs.Plan.{is_line_of}
 use Rattle.graph_compiler.specs.Slots.{AreOnce}
 use Rattle.graph_compiler.proofs.Standing.{slots_stand_once}
 use Rattle.graph_compiler.proofs.ValidForward.{reduced_once}

@@ -26,7 +26,7 @@ use Rattle.task_check.specs.First.{IsAccepted, IsFaultless}
 use Rattle.task_check.specs.Plan.{Detail, OnPatch, Combining, Slot, Old, OldNumber, New, Part, Number, combining, details_of, is_read, line_is, old_numbers, old_variables, on_patches, patch_of, patches_of, reads, slot_written, slots_of, wants, written_by}
 use Rattle.graph_compiler.specs.Places.{StandsAt}
 use Rattle.graph_compiler.specs.Plan.{is_old}
-use Rattle.graph_compiler.specs.Slots.{IsDetailOf, IsNumberOf, IsOfList, IsOldOn, IsOnPatch}
+use Rattle.graph_compiler.specs.Slots.{IsDetailOf, IsNumberOf, IsOfList, IsOnPatch}
 use Rattle.graph_compiler.proofs.LastVersions.{list_any-flat_map}
 use Rattle.graph_compiler.proofs.ValidDetails.{Before, IsBy, not_itself, one_writer, written_are_new, written_is_by}
 use Rattle.graph_compiler.proofs.ValidLists.{counted-below, counted-rises}

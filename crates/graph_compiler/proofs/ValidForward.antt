@@ -1,7 +1,7 @@
 -- A detailed task that reads what another writes stands behind it.
-use Rattle.std.proofs.Common.{◌≡◌, ◌∙◌, ◌<◌, ◌⊎◌, inl, inr, ℕ, zero, suc, List, [], ◌∷◌, Bool, true, false, cond, Some, take, sym, refl, arith, subst, eqb-true, ltb-true}
+use Rattle.std.proofs.Common.{◌≡◌, ◌∙◌, ◌<◌, ◌⊎◌, inl, inr, ℕ, List, Bool, true, false, Some, take, sym, refl, arith, subst, eqb-true, ltb-true}
 use Rattle.std.specs.Prelude.{slice_get, ◌==◌, ◌&&◌, nat_lt, if◌then◌else◌}
-use Rattle.std.specs.List.{list_any, find}
+use Rattle.std.specs.List.{list_any}
 use Rattle.std.specs.Option.{is_some}
 use Rattle.std.proofs.lemmas.Bool.{and_parts, cases_order, true_from_ne_false}
 use Rattle.uts_geom.specs.Lists.{any_at, at_place, of_option, from_take, get-take, found_at, place_of_found}

@@ -1,8 +1,7 @@
 -- The graph of each plan of an accepted problem is valid.
-use Rattle.std.proofs.Common.{◌≡◌, ◌∙◌, ◌<◌, ◌≤◌, ◌-◌, ◌⊎◌, inl, inr, ℕ, zero, suc, List, [], ◌∷◌, ◌++◌, Bool, true, false, cond, Some, length, map, get_or, ap, sym, refl, arith, length-append}
+use Rattle.std.proofs.Common.{◌≡◌, ◌∙◌, ◌<◌, ◌≤◌, ◌-◌, inl, inr, ℕ, zero, suc, List, [], ◌∷◌, ◌++◌, Bool, true, false, cond, Some, length, map, get_or, ap, sym, refl, arith, length-append}
 use Rattle.std.specs.Prelude.{slice_get, slice_index_or, option_map, All, filter}
 use Rattle.std.specs.List.{AllPairs, count_by, flat_map}
-use Rattle.std.proofs.lemmas.Bool.{cases_lt}
 use Rattle.std.proofs.lemmas.List.{length-map}
 use Rattle.std.proofs.lemmas.List.Elements.{All-append, All-filter, All-map, filter_passes}
 use Rattle.std.proofs.lemmas.List.Sums.{sum_by-append, sum_by-cons}

@@ -1,7 +1,6 @@
 -- Lists of lines that ascend, part after part.
-use Rattle.std.proofs.Common.{◌≡◌, ℕ, zero, suc, ◌+◌, ◌<◌, Bool, true, false, ◌∙◌, refl, sym, ap, arith, ◌↔◌, List, [], ◌∷◌, ◌++◌, map, rules, length, get_or, drop, drop-cons, add-one, ltb-true, ltb-false, Option, SomeIff, Some, None, IsSome, if◌then◌else◌, nat_lt}
+use Rattle.std.proofs.Common.{◌≡◌, ℕ, ◌+◌, ◌<◌, Bool, true, false, ◌∙◌, refl, sym, ap, arith, ◌↔◌, List, [], ◌∷◌, ◌++◌, map, length, get_or, drop, drop-cons, add-one, ltb-true, ltb-false, Option, SomeIff, Some, None, IsSome, if◌then◌else◌, nat_lt}
 use Rattle.std.proofs.lemmas.Option.{none-some}
-use native.Mathlib.Numerals.{unary_clauses}
 use Rattle.std.specs.List.{flat_map}
 use Rattle.std.specs.List.Sorted.{IsStrictlyIncreasing}
 use Rattle.problem_types.specs.Ascent.{last_ascending, followed, increasing_where_some, some_where_increasing}

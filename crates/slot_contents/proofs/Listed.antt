@@ -78,4 +78,3 @@ find_only {A} test (y ∷ ys) zero x at passes only =
 find_only {A} test (y ∷ ys) (suc k) x at passes only =
     ap (λ (b : Bool). cond b (Some y) (find test ys)) (false_from_ne_true (test y) (λ yes. let first = only 0 y refl yes in omega (arith, first)))
     ∙ find_only test ys k x at passes (λ j z z_at z_passes. let same = only (suc j) z z_at z_passes in omega (arith, same))
-

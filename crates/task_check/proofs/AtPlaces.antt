@@ -1,8 +1,7 @@
 -- Values at their places in lists: what stands before a place, which place is the last one, and what stands at one place only.
-use Rattle.std.proofs.Common.{◌≡◌, ◌∙◌, ◌<◌, ◌+◌, ◌⊎◌, inl, inr, ℕ, zero, suc, List, [], ◌∷◌, Bool, true, false, cond, Some, length, take, drop, ap, refl, arith, subst}
-use Rattle.std.specs.Prelude.{slice_get, slice_index, ◌==◌, Any, Contains}
-use Rattle.std.specs.List.{count_by, list_any, find}
-use Rattle.std.specs.Option.{is_some}
+use Rattle.std.proofs.Common.{◌≡◌, ◌∙◌, ◌<◌, ◌+◌, ◌⊎◌, inl, inr, ℕ, zero, suc, List, Bool, true, false, Some, length, take, drop, ap, refl, arith, subst}
+use Rattle.std.specs.Prelude.{slice_get, slice_index, ◌==◌, Any}
+use Rattle.std.specs.List.{count_by, list_any}
 use Rattle.std.specs.List.Sorted.{IsStrictlyIncreasing}
 use Rattle.std.proofs.lemmas.Bool.{cases_order, eqb-true, eq-eqb}
 use Rattle.std.proofs.lemmas.Option.{slice_get_within, get_or_from_slice_get}

@@ -1,28 +1,19 @@
 -- How many indexes lie on a level: coordinates from 0 to 4,097.
-use Rattle.std.proofs.Common.{◌≡◌, ◌∙◌, ◌≤◌, ◌<◌, ◌*◌, ℕ, ℤ, pos, negsuc, ◌+ℤ◌, ◌≤ℤ◌, Bool, true, false, [], length, ap, arith}
-use Rattle.std.specs.Prelude.{slice_index}
+use Rattle.std.proofs.Common.{◌≤◌, ◌<◌, ◌*◌, ℕ, ℤ, pos, negsuc, ◌≤ℤ◌, length, arith}
 use Rattle.std.specs.Int.{int_gap, int_min, int_max}
-use Rattle.std.specs.List.{flat_map}
 use Rattle.std.proofs.Math.Nat.{mul-le-mul}
 use Rattle.std.proofs.lemmas.Int.{ints, clamps}
-use Rattle.std.proofs.lemmas.List.{length-map}
-use Rattle.std.proofs.lemmas.List.Concat.{length-flat_map}
 use Rattle.uts_geom.specs.declared.span.Span.{Span}
-use Rattle.uts_geom.specs.Spans.{index, counted, from_to, row_indexes, indexes_of, width_of, height_of, depth_of, meet_of, IsNearNumber, IsNearSpan}
-use Rattle.uts_geom.specs.Centrings.{is_point_like}
-use Rattle.uts_geom.specs.declared.centring.Axis.TheVariants.{X, Y, Z}
+use Rattle.uts_geom.specs.Spans.{indexes_of, width_of, height_of, depth_of, meet_of}
 use Rattle.uts_geom.specs.declared.centring.Centring.{Centring}
-use Rattle.uts_geom.specs.Counting.{length-counted}
 use Rattle.uts_geom.specs.Places.{length-indexes}
 use Rattle.problem_types.specs.Levels.{HasNearBounds, KeepsGridLimits}
-use Rattle.problem_types.specs.Regions.{end_of, space_of}
+use Rattle.problem_types.specs.Regions.{space_of}
 use Rattle.problem_types.specs.declared.problem.BoxLine.{BoxLine}
 use Rattle.problem_types.specs.declared.problem.Level.{Level}
 use Rattle.problem_types.specs.NearSpaces.{IsOnGridSpan, space_on_grid}
 use Rattle.patch_regions.specs.Regions.{owned_span}
 use Rattle.patch_regions.specs.OnGrid.{owned_on_grid}
-use Rattle.task_check.proofs.Sums.{sum-constant}
-use Rattle.task_check.proofs.Details.{sum-alike}
 
 -- a span whose low corner is not below 0, and whose high corner is at most 4,097
 pub record LiesOnGrid (s : Span) : Type 0 where

@@ -1,9 +1,9 @@
-use Rattle.std.proofs.Common.{◌≡◌, ◌∙◌, List, [], ◌∷◌, map, sum, length, All, ap, subst, arith}
-use Rattle.uts_geom.specs.Spans.{indexes_of, IsNearSpan}
+use Rattle.std.proofs.Common.{◌≡◌, ◌∙◌, List, [], ◌∷◌, map, sum, length, ap, arith}
+use Rattle.uts_geom.specs.Spans.{indexes_of}
 use Rattle.uts_geom.specs.declared.centring.Centring.TheVariants.{Cell}
 use Rattle.uts_geom.specs.declared.span.Span.{Span}
 use Rattle.problem_types.specs.declared.problem.BoxLine.{BoxLine}
-use Rattle.problem_types.specs.Levels.{HasNearBounds, cells_of}
+use Rattle.problem_types.specs.Levels.{cells_of}
 use Rattle.problem_types.specs.NearSpaces.{near_span, only_on_grid}
 use Rattle.task_check.proofs.levels.cell_count.Goals as goal
 

@@ -1,4 +1,4 @@
-use Rattle.std.proofs.Common.{◌≡◌, ◌∙◌, ◌≤◌, ◌<◌, ◌+◌, ◌-◌, ◌^◌, ◌++◌, ℕ, ℤ, pos, ◌+ℤ◌, List, min, length, map, take, drop, replicate, ap, sym, subst, rules, arith, true, false, w64, FitsSigned}
+use Rattle.std.proofs.Common.{◌≡◌, ◌∙◌, ◌+◌, ◌-◌, ◌++◌, ℕ, ℤ, pos, ◌+ℤ◌, List, min, length, map, take, drop, replicate, ap, sym, subst, rules, arith, true, false, w64, FitsSigned}
 use Rattle.std.specs.Int.{int_gap}
 use Rattle.std.proofs.lemmas.Int.{to_z-of_z}
 use Rattle.std.proofs.lemmas.List.{length-map, length-replicate}
