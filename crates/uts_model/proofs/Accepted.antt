@@ -1,5 +1,5 @@
 -- A problem in form that keeps the checker's limits is one whose numbers are found by recursion.
-use Rattle.std.proofs.Common.{◌≡◌, ℕ, zero, suc, ◌<◌, ◌≤◌, ◌^◌, inl, inr, arith, List, length, Some}
+use Rattle.std.proofs.Common.{◌≡◌, ℕ, zero, suc, ◌≤◌, inl, inr, arith, List, length, Some}
 use Rattle.std.specs.Prelude.{All, slice_get}
 use Rattle.std.proofs.lemmas.Option.{slice_get_within, get_or_from_slice_get}
 use Rattle.problem_types.specs.Form.{IsProblemInForm, IsTaskInForm, AreTasksInForm}
@@ -11,7 +11,6 @@ use Rattle.grid_levels.specs.Good.{HasGoodRatio}
 use Rattle.task_check.specs.Bounds.{IsBounded, IsBoundedTask, AreBoundedTasks}
 use Rattle.uts_model.specs.Evaluable.{IsEvaluable, IsEvaluableTask}
 use Rattle.uts_model.specs.Grids.{AreBoundedLevels}
-use Rattle.uts_model.specs.WholeField.{task_count}
 
 some_ratio : (level : ℕ) (l : Level) → HasGoodRatio level l → 1 ≤ l.ratio
 some_ratio zero l good = let one : l.ratio ≡ 1 = good.0 (omega arith) in omega arith

@@ -1,10 +1,10 @@
 -- The children of an index as the indexes of a span.
-use Rattle.std.proofs.Common.{◌≡◌, ◌∙◌, ap, sym, refl, arith, ℕ, ℤ, pos, negsuc, ◌+◌, ◌*◌, ◌≤◌, ◌+ℤ◌, ◌*ℤ◌, ◌≤ℤ◌, List, [], ◌∷◌, Bool, true, false, map}
+use Rattle.std.proofs.Common.{◌≡◌, ◌∙◌, ap, sym, arith, ℕ, ℤ, pos, negsuc, ◌+◌, ◌*◌, ◌≤◌, ◌+ℤ◌, ◌*ℤ◌, ◌≤ℤ◌, List, [], ◌∷◌, Bool, true, false, map}
 use Rattle.std.specs.Prelude.{filter}
-use Rattle.std.specs.Int.{int_gap, int_max, int_min}
+use Rattle.std.specs.Int.{int_gap}
 use Rattle.std.specs.List.{flat_map}
 use Rattle.std.proofs.Math.Nat.{mul-le-mul_left}
-use Rattle.std.proofs.lemmas.Int.{ints, clamps}
+use Rattle.std.proofs.lemmas.Int.{ints}
 use Rattle.uts_geom.specs.Centrings.{is_point_like}
 use Rattle.uts_geom.specs.Spans.{index, counted, from_to, is_inside, indexes_of, meet_of, IsNearNumber, IsNearSpan}
 use Rattle.uts_geom.specs.declared.centring.Axis.TheVariants.{X, Y, Z}

@@ -1,5 +1,5 @@
 -- The number of an expression, from those of its parts.
-use Rattle.std.proofs.Common.{◌≡◌, ◌∙◌, ℤ, pos, Bool, true, false, ap, sym, cond}
+use Rattle.std.proofs.Common.{◌≡◌, ◌∙◌, pos, Bool, true, false, ap, sym, cond}
 use Rattle.std.specs.Ordering.{int_eq}
 use Rattle.kernel_ast.specs.Arithmetic.{difference_of}
 use Rattle.kernel_ast.specs.Value.{Environment, value_of, result_of, value_of-Neg, value_of-Binary, value_of-Select}

@@ -1,23 +1,22 @@
 -- The index space of a level, which has one box, as one span.
-use Rattle.std.proofs.Common.{◌≡◌, ◌∙◌, ap, sym, refl, arith, ℕ, suc, ℤ, pos, ◌<◌, ◌≤◌, ◌≤ℤ◌, List, [], ◌∷◌, Bool, true, false, Some, None, Option, length, subst}
-use Rattle.std.specs.Prelude.{◌||◌, ◌&&◌, IsTrue, All, slice_get, slice_index, int_le, map}
+use Rattle.std.proofs.Common.{◌≡◌, ◌∙◌, ap, sym, refl, arith, ℕ, suc, ℤ, List, [], ◌∷◌, Bool, true, false, Some, None, Option}
+use Rattle.std.specs.Prelude.{◌||◌, ◌&&◌, All, slice_get, map}
 use Rattle.std.specs.List.{list_any, flat_map}
 use Rattle.std.specs.Option.{option_map_or}
 use Rattle.std.proofs.lemmas.Bool.{and_parts, false≢true}
 use Rattle.std.proofs.lemmas.Int.{ints}
 use Rattle.std.proofs.lemmas.List.{append-nil}
 use Rattle.std.proofs.lemmas.Option.{slice_get_within}
-use Rattle.uts_geom.specs.Centrings.{is_point_like}
-use Rattle.uts_geom.specs.Spans.{is_between, is_inside, indexes_of, IsNearNumber, IsNear, IsNearSpan}
+use Rattle.uts_geom.specs.Spans.{is_between, is_inside, indexes_of, IsNear}
 use Rattle.uts_geom.specs.declared.centring.Centring.{Centring}
 use Rattle.uts_geom.specs.declared.index.Index.{Index}
 use Rattle.uts_geom.specs.declared.span.Span.{Span}
-use Rattle.problem_types.specs.Levels.{HasNearBounds, KeepsGridLimits, spaces_on}
-use Rattle.problem_types.specs.Regions.{end_of, space_of, spaces_of, is_in_space, indexes_of as indexes_on, ratio_of}
+use Rattle.problem_types.specs.Levels.{HasNearBounds, spaces_on}
+use Rattle.problem_types.specs.Regions.{space_of, spaces_of, is_in_space, indexes_of as indexes_on, ratio_of}
 use Rattle.problem_types.specs.declared.problem.BoxLine.{BoxLine}
 use Rattle.problem_types.specs.declared.problem.Level.{Level}
 use Rattle.problem_types.specs.declared.problem.Problem.{Problem}
-use Rattle.problem_types.specs.NearSpaces.{IsOnAxis, IsOnGrid, IsOnGridSpan, near_index, level_on_grid, space_on_grid}
+use Rattle.problem_types.specs.NearSpaces.{IsOnAxis, IsOnGrid, IsOnGridSpan, near_index, space_on_grid}
 use Rattle.uts_model.specs.Grids.{AreBoundedLevels, IsOnLevel}
 
 or_false : (b : Bool) → (b || false) ≡ b

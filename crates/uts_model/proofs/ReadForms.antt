@@ -1,5 +1,5 @@
 -- What a read of a variable gives, by its form.
-use Rattle.std.proofs.Common.{◌≡◌, ◌∙◌, ap, refl, ℕ, ℤ, ◌+◌, ◌-◌}
+use Rattle.std.proofs.Common.{◌≡◌, ◌∙◌, ap, refl, ℕ, ℤ, ◌-◌}
 use Rattle.uts_geom.specs.declared.index.Index.{Index}
 use Rattle.kernel_ast.specs.declared.expression.How.{How}
 use Rattle.kernel_ast.specs.declared.expression.How.TheVariants.{Same, Coarse, FineSum, FineMin, FineMax}

@@ -1,5 +1,5 @@
 -- The numbers that reads of children and reductions combine.
-use Rattle.std.specs.Prelude.{ℕ, ℤ, ◌+◌, ◌≤◌, ◌<◌, ◌^◌, List, map, All}
+use Rattle.std.specs.Prelude.{ℕ, ℤ, ◌+◌, ◌≤◌, List, map}
 use Rattle.std.specs.List.{flat_map}
 use Rattle.kernel_ast.specs.Size.{depth_of}
 use Rattle.kernel_ast.specs.Value.{value_of}

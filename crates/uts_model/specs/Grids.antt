@@ -1,5 +1,5 @@
 -- Levels within limits, and where indexes lie on them.
-use Rattle.std.specs.Prelude.{◌≡◌, ℕ, ℤ, pos, ◌<◌, ◌≤◌, ◌⊎◌, ◌+ℤ◌, ◌*ℤ◌, ◌≤ℤ◌, Bool, true, false, Some, length, slice_get}
+use Rattle.std.specs.Prelude.{◌≡◌, ℕ, ℤ, pos, ◌<◌, ◌≤◌, ◌⊎◌, ◌+ℤ◌, ◌*ℤ◌, Bool, true, false, Some, length, slice_get}
 use Rattle.uts_geom.specs.Centrings.{is_point_like}
 use Rattle.uts_geom.specs.Spans.{index, IsNearNumber, IsNear}
 use Rattle.uts_geom.specs.declared.centring.Axis.TheVariants.{X, Y, Z}

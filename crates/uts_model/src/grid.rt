@@ -5,7 +5,8 @@ ghost use Rattle.std.specs.Option.{option_copied};
 ghost use Rattle.uts_geom.specs.Spans.{is_inside, index, indexes_of, IsNearNumber, IsNearSpan};
 ghost use Rattle.uts_geom.specs.declared.index.Index.{Index};
 ghost use Rattle.problem_types.specs.Regions.{is_in_space, indexes_of as indexes_on, moved, offset_of, ratio_of, coarse_index, children_of};
-ghost use Rattle.uts_model.specs.Grids.{AreBoundedLevels, IsOnAxis, IsOnGrid, IsOnLevel, IsSameOrFar, IsSameOrFarNumber, all_children, children_end};
+ghost use Rattle.problem_types.specs.NearSpaces.{IsOnAxis, IsOnGrid};
+ghost use Rattle.uts_model.specs.Grids.{AreBoundedLevels, IsOnLevel, IsSameOrFar, IsSameOrFarNumber, all_children, children_end};
 
 use patch_regions::index_space;
 use problem_types::{Centring, Level, Problem};

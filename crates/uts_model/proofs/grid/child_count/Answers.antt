@@ -1,6 +1,5 @@
-use Rattle.std.proofs.Common.{◌≡◌, ◌≤◌, ◌*◌, ap, length, pos, arith}
+use Rattle.std.proofs.Common.{◌≡◌, ap, length, arith}
 use Rattle.std.proofs.lemmas.Int.{ints}
-use Rattle.uts_geom.specs.Spans.{indexes_of}
 use Rattle.problem_types.specs.Regions.{children_of}
 use Rattle.uts_model.proofs.Indexes.{few_indexes}
 use Rattle.uts_model.proofs.grid.child_count.Goals as goal

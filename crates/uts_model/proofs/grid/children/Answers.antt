@@ -1,6 +1,6 @@
 use Rattle.std.proofs.Common.{◌≡◌, ◌∙◌, ap, ℤ, pos, ◌+◌, rules, w64, FitsSigned}
 use Rattle.std.proofs.lemmas.Int.{to_z-of_z}
-use Rattle.uts_geom.specs.Spans.{indexes_of, meet_of, IsNearSpan}
+use Rattle.uts_geom.specs.Spans.{indexes_of, meet_of}
 use Rattle.uts_geom.specs.declared.span.Span.{Span}
 use Rattle.uts_geom.specs.Near.{meet_near}
 use Rattle.problem_types.specs.Regions.{ratio_of}

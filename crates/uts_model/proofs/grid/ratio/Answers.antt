@@ -1,4 +1,4 @@
-use Rattle.std.proofs.Common.{◌≡◌, ap, pos, ◌≤◌, arith, sym, ◌∙◌}
+use Rattle.std.proofs.Common.{ap, pos, ◌≤◌, arith, sym}
 use Rattle.std.proofs.lemmas.Int.{ints}
 use Rattle.uts_model.proofs.LevelSpaces.{ratio_at, ratio_of_none}
 use Rattle.uts_model.proofs.grid.ratio.Goals as goal

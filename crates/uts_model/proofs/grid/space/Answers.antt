@@ -1,5 +1,4 @@
 use Rattle.std.proofs.Common.{◌≡◌, ◌∙◌, sym, [], ◌∷◌}
-use Rattle.uts_geom.specs.Spans.{is_inside}
 use Rattle.problem_types.specs.Regions.{spaces_of}
 use Rattle.problem_types.specs.NearSpaces.{IsOnGridSpan, level_on_grid, near_span}
 use Rattle.uts_model.proofs.LevelSpaces.{inside_on_grid, spaces_at, on_level_at, inside_one, indexes_of_one}
