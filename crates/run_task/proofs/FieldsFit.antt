@@ -1,14 +1,12 @@
 -- What a value is that has the content of a slot.
 use Rattle.std.proofs.Common.{◌≡◌, ◌∙◌, ℕ, ℤ, pos, Bool, true, cond, List, [], ◌∷◌, length, map, Option, Some, None, refl, sym, ap}
-use Rattle.std.specs.Prelude.{◌↔◌, ◌&&◌, Contains, IsTrue, nat_lt, position, slice_get, slice_index_or}
+use Rattle.std.specs.Prelude.{◌↔◌, Contains, IsTrue, nat_lt, position, slice_get, slice_index_or}
 use Rattle.std.specs.List.{position_or_len}
 use Rattle.std.specs.Option.{option_map, option_map_or}
-use Rattle.std.specs.Ordering.{int_eq}
-use Rattle.std.proofs.lemmas.Bool.{and_from, and_parts, lt-ltb}
-use Rattle.std.proofs.lemmas.Bool.Decides.{Decides-int_eq}
+use Rattle.std.proofs.lemmas.Bool.{lt-ltb}
 use Rattle.std.proofs.lemmas.List.Folds.{find_at}
 use Rattle.std.proofs.lemmas.Option.{get_or_from_slice_get, slice_get-map, slice_get_within}
-use Rattle.uts_geom.specs.Spans.{index, indexes_of, is_inside}
+use Rattle.uts_geom.specs.Spans.{indexes_of, is_inside}
 use Rattle.uts_geom.specs.declared.index.Index.{Index}
 use Rattle.uts_geom.specs.declared.span.Span.{Span}
 use Rattle.uts_geom.specs.SameIndexes.{by_coordinates, is_same_index, same_index_decides}

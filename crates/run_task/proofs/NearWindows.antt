@@ -1,20 +1,18 @@
 -- The windows of requirements, and what patches own, have near coordinates.
-use Rattle.std.proofs.Common.{◌≡◌, ◌≤◌, ◌<◌, ◌+◌, inl, inr, ◌⊎◌, ℕ, ℤ, pos, negsuc, ◌+ℤ◌, ◌*ℤ◌, ◌≤ℤ◌, Bool, true, false, length, [], arith}
-use Rattle.std.specs.Prelude.{if◌then◌else◌, slice_index}
+use Rattle.std.proofs.Common.{◌≡◌, ◌≤◌, ◌<◌, ◌+◌, inl, inr, ◌⊎◌, ℕ, ℤ, pos, negsuc, ◌+ℤ◌, ◌*ℤ◌, Bool, true, false, length, arith}
+use Rattle.std.specs.Prelude.{if◌then◌else◌}
 use Rattle.std.specs.Int.{int_div_euclid}
 use Rattle.std.proofs.lemmas.Int.{ints}
 use Rattle.kernel_ast.specs.declared.expression.Store.{Store}
 use Rattle.kernel_ast.specs.declared.expression.Store.TheVariants as store
 use Rattle.uts_geom.specs.Centrings.{is_point_like}
 use Rattle.uts_geom.specs.Spans.{IsNearNumber, IsNearSpan}
-use Rattle.uts_geom.specs.declared.centring.Axis.{Axis}
 use Rattle.uts_geom.specs.declared.centring.Axis.TheVariants.{X, Y, Z}
 use Rattle.uts_geom.specs.declared.centring.Centring.{Centring}
 use Rattle.uts_geom.specs.declared.span.Span.{Span}
-use Rattle.problem_types.specs.Levels.{HasNearBounds, KeepsGridLimits, cells_of}
+use Rattle.problem_types.specs.Levels.{KeepsGridLimits, cells_of}
 use Rattle.problem_types.specs.Lists.{centring_of}
-use Rattle.problem_types.specs.Regions.{end_of, ratio_of, space_of}
-use Rattle.problem_types.specs.declared.problem.BoxLine.{BoxLine}
+use Rattle.problem_types.specs.Regions.{ratio_of}
 use Rattle.problem_types.specs.declared.problem.Ghost.{Ghost}
 use Rattle.problem_types.specs.declared.problem.GhostKind.{GhostKind}
 use Rattle.problem_types.specs.declared.problem.GhostKind.TheVariants as kind

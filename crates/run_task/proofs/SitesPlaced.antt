@@ -1,13 +1,13 @@
 -- The level and the patch of a site, and of what its task requires.
 use Rattle.std.proofs.Common.{◌≡◌, ◌∙◌, ◌≤◌, ◌<◌, ◌+◌, ℕ, length, map, [], ◌∷◌, Some, sym, ap, subst}
-use Rattle.std.specs.Prelude.{All, Contains, slice_get}
+use Rattle.std.specs.Prelude.{Contains, slice_get}
 use Rattle.std.specs.Option.{option_map_or}
-use Rattle.std.proofs.lemmas.List.Elements.{All-contains, All-head}
+use Rattle.std.proofs.lemmas.List.Elements.{All-contains}
 use Rattle.std.proofs.lemmas.Option.{slice_get_within}
 use Rattle.uts_geom.specs.Spans.{IsNearSpan, indexes_of, width_of}
 use Rattle.uts_geom.specs.declared.centring.Centring.{Centring}
 use Rattle.uts_geom.specs.declared.span.Span.{Span}
-use Rattle.problem_types.specs.Levels.{HasNearBounds, spaces_on}
+use Rattle.problem_types.specs.Levels.{spaces_on}
 use Rattle.problem_types.specs.Regions.{space_of, spaces_of}
 use Rattle.problem_types.specs.declared.problem.Level.{Level}
 use Rattle.problem_types.specs.declared.problem.Problem.{Problem}
@@ -21,7 +21,7 @@ use Rattle.task_check.specs.Plan.{wanted_window}
 use Rattle.run_task.specs.Sites.{IsPlaced, IsSiteOf}
 use Rattle.run_task.specs.declared.job.StepJob.{StepJob}
 use Rattle.run_task.specs.declared.work.Site.{Site}
-use Rattle.run_task.proofs.FewIndexes.{box_at, few_owned}
+use Rattle.run_task.proofs.FewIndexes.{few_owned}
 use Rattle.problem_types.specs.NearSpaces.{level_near}
 use Rattle.patch_regions.specs.OnGrid.{owned_near}
 use Rattle.run_task.proofs.NearWindows.{wanted_near}

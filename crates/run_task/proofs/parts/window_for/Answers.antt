@@ -1,4 +1,5 @@
-use Rattle.std.proofs.Common.{◌≡◌, ◌<◌, ◌∙◌, ℕ, [], ◌∷◌, length, ap, sym, subst, arith}
+use Rattle.std.proofs.Common.{◌≡◌, ◌<◌, ◌∙◌, ℕ, [], ◌∷◌, length, Some, ap, sym, subst, arith}
+use Rattle.std.specs.Prelude.{slice_get}
 use Rattle.uts_geom.specs.Spans.{IsNearSpan}
 use Rattle.uts_geom.specs.declared.centring.Centring.{Centring}
 use Rattle.uts_geom.specs.declared.span.Span.{Span}
@@ -6,10 +7,12 @@ use Rattle.problem_types.specs.Lists.{centring_of}
 use Rattle.problem_types.specs.Regions.{spaces_of}
 use Rattle.problem_types.specs.declared.problem.Problem.{Problem}
 use Rattle.task_rules.specs.Lines.{wanted_level, wanted_name}
+use Rattle.task_check.specs.Bounds.{IsBoundedLevel}
 use Rattle.run_task.proofs.FewIndexes.{few_in_space}
 use Rattle.run_task.proofs.SitesPlaced.{is_placed, laid_at, require_bounded, space_is_near, space_of_level, stands_here, wanted_there, window_here, window_is_near}
 use Rattle.run_task.proofs.TasksAtSites.{level_bounded}
 use Rattle.run_task.proofs.parts.window_for.Goals as goal
+use Rattle.run_task.proofs.parts.window_for.Goals.{After-level_at-wanted}
 
 pub wanted_window-span-requires-clause-few : goal.wanted_window-span-requires-clause-few
 wanted_window-span-requires-clause-few c =
@@ -36,15 +39,22 @@ level_at-wanted-requires c =
     (subst (λ (n : ℕ). n < length p.levels) (sym wanted)
     (wanted_there c.accepted_problems_are_bounded.ensures c.args.job.now c.args.site c.args.task.now c.requires.site c.args.require c.requires.required))
 
-pub index_space-space-requires : goal.index_space-space-requires
-index_space-space-requires c =
-    let p = c.args.job.now.checked.now in
-    let site = c.args.site in
+-- the level that is wanted, at its number
+wanted_at : (c : After-level_at-wanted) → slice_get c.args.job.now.checked.now.levels (wanted_level c.args.require.what c.args.site.level) ≡ Some c.level_at-wanted.result.now
+wanted_at c =
     let what = c.args.require.what in
-    let wanted : c.wanted_level.result ≡ wanted_level what site.level = c.wanted_level.ensures ∙ ap (wanted_level what) c.from-level.ensures in
-    let l = c.level_at-wanted.result.now in
-    let at = stands_here c.problem-p.result.now p c.wanted_level.result (wanted_level what site.level) l c.problem-p.ensures.problem wanted c.level_at-wanted.ensures in
-    (level_bounded c.accepted_problems_are_bounded.ensures p site.step site.task c.args.task.now c.requires.site.task (wanted_level what site.level) l at).limits
+    let wanted : c.wanted_level.result ≡ wanted_level what c.args.site.level = c.wanted_level.ensures ∙ ap (wanted_level what) c.from-level.ensures in
+    stands_here c.problem-p.result.now c.args.job.now.checked.now c.wanted_level.result (wanted_level what c.args.site.level) c.level_at-wanted.result.now c.problem-p.ensures.problem wanted c.level_at-wanted.ensures
+
+-- it is within the limits
+wanted_bounded : (c : After-level_at-wanted) → IsBoundedLevel c.args.job.now.checked.now (wanted_level c.args.require.what c.args.site.level) c.level_at-wanted.result.now
+wanted_bounded c =
+    let site = c.args.site in
+    level_bounded c.accepted_problems_are_bounded.ensures c.args.job.now.checked.now site.step site.task c.args.task.now c.requires.site.task
+    (wanted_level c.args.require.what site.level) c.level_at-wanted.result.now (wanted_at c)
+
+pub index_space-space-requires : goal.index_space-space-requires
+index_space-space-requires c = (wanted_bounded (goal.at.index_space-space-requires c).After-level_at-wanted).limits
 
 pub make-requires-clause-span_near : goal.make-requires-clause-span_near
 make-requires-clause-span_near c =
@@ -61,27 +71,15 @@ make-requires-clause-span_near c =
 
 pub make-requires-clause-space_near : goal.make-requires-clause-space_near
 make-requires-clause-space_near c =
-    let p = c.args.job.now.checked.now in
-    let site = c.args.site in
-    let what = c.args.require.what in
-    let wanted : c.wanted_level.result ≡ wanted_level what site.level = c.wanted_level.ensures ∙ ap (wanted_level what) c.from-level.ensures in
-    let l = c.level_at-wanted.result.now in
-    let at = stands_here c.problem-p.result.now p c.wanted_level.result (wanted_level what site.level) l c.problem-p.ensures.problem wanted c.level_at-wanted.ensures in
-    let bounded =
-    level_bounded c.accepted_problems_are_bounded.ensures p site.step site.task c.args.task.now c.requires.site.task (wanted_level what site.level) l at in
-    space_is_near p (wanted_level what site.level) l bounded c.centring_of.result c.index_space-space.result c.index_space-space.ensures
+    let bounded = wanted_bounded (goal.at.make-requires-clause-space_near c).After-level_at-wanted in
+    space_is_near c.args.job.now.checked.now (wanted_level c.args.require.what c.args.site.level) c.level_at-wanted.result.now bounded c.centring_of.result
+    c.index_space-space.result c.index_space-space.ensures
 
 pub make-requires-clause-few : goal.make-requires-clause-few
 make-requires-clause-few c =
-    let p = c.args.job.now.checked.now in
-    let site = c.args.site in
-    let what = c.args.require.what in
-    let wanted : c.wanted_level.result ≡ wanted_level what site.level = c.wanted_level.ensures ∙ ap (wanted_level what) c.from-level.ensures in
-    let l = c.level_at-wanted.result.now in
-    let at = stands_here c.problem-p.result.now p c.wanted_level.result (wanted_level what site.level) l c.problem-p.ensures.problem wanted c.level_at-wanted.ensures in
-    let bounded =
-    level_bounded c.accepted_problems_are_bounded.ensures p site.step site.task c.args.task.now c.requires.site.task (wanted_level what site.level) l at in
-    few_in_space p (wanted_level what site.level) l bounded c.centring_of.result c.wanted_window-span.result c.index_space-space.result c.index_space-space.ensures
+    let bounded = wanted_bounded (goal.at.make-requires-clause-few c).After-level_at-wanted in
+    few_in_space c.args.job.now.checked.now (wanted_level c.args.require.what c.args.site.level) c.level_at-wanted.result.now bounded c.centring_of.result
+    c.wanted_window-span.result c.index_space-space.result c.index_space-space.ensures
 
 pub returns-in-Ok-clause-span : goal.returns-in-Ok-clause-span
 returns-in-Ok-clause-span c = λ l at.
@@ -96,10 +94,8 @@ returns-in-Ok-clause-space c =
     let what = c.args.require.what in
     let level = wanted_level what c.args.site.level in
     let window = c.in-Ok.window in
-    let wanted : c.wanted_level.result ≡ level = c.wanted_level.ensures ∙ ap (wanted_level what) c.from-level.ensures in
-    let l = c.level_at-wanted.result.now in
-    let at = stands_here c.problem-p.result.now p c.wanted_level.result level l c.problem-p.ensures.problem wanted c.level_at-wanted.ensures in
+    let at = wanted_at (goal.at.returns-in-Ok-clause-space c).After-level_at-wanted in
     let centring : c.centring_of.result ≡ centring_of p (wanted_name what) =
     c.centring_of.ensures ∙ ap (λ (q : Problem). centring_of q c.wanted_name-name.result) c.problem-p.ensures.problem ∙ ap (centring_of p) c.wanted_name-name.ensures in
     subst (λ (k : Centring). spaces_of p level k ≡ window.space ∷ []) centring
-    (space_of_level p level l c.centring_of.result window.space at (c.index_space-space.ensures ∙ ap (λ (s : Span). s ∷ []) (sym c.in-Ok.ensures.space)))
+    (space_of_level p level c.level_at-wanted.result.now c.centring_of.result window.space at (c.index_space-space.ensures ∙ ap (λ (s : Span). s ∷ []) (sym c.in-Ok.ensures.space)))
