@@ -1,4 +1,4 @@
-ghost use Rattle.std.specs.Prelude.{◌≡◌, ℕ, ◌<◌, ◌≤◌, List, [], ◌++◌, length, take, Option};
+ghost use Rattle.std.specs.Prelude.{◌≡◌, ◌≢◌, ℕ, ◌<◌, ◌≤◌, List, [], ◌++◌, length, take, Option};
 ghost use Rattle.uts_io.specs.Streams.{Rose, grown};
 ghost use Rattle.uts_io.specs.Writes.{IfTook};
 
@@ -16,7 +16,7 @@ pub trait Sink {
     /// A list that stands for the bytes taken so far, where the sink tells it.
     ghost taken: { Self → Option (List ℕ) };
 
-    /// How often the sink has failed: a count that never falls.
+    /// How often the sink has failed: a count that never falls, and stays where a call does not fail.
     ghost faults: { Self → ℕ };
 
     /// What stands for the bytes taken once more bytes follow.
@@ -27,6 +27,7 @@ pub trait Sink {
         requires { 0 < length piece.now }
         ensures took { IfTook result (λ n. (1 ≤ n) × (n ≤ length piece.now) × (taken self.new ≡ grown after (taken self.old) (take n piece.now))) }
         ensures failed { result ≡ Wrote.Failed → Rose (faults self.old) (faults self.new) × (taken self.new ≡ taken self.old) }
+        ensures calm { result ≢ Wrote.Failed → faults self.new ≡ faults self.old }
         ensures never_falls { faults self.old ≤ faults self.new };
 
     /// No bytes change nothing.

@@ -30,6 +30,7 @@ pub fn read_all<S: Source>(alloc: Global, source: &mut S, limit: usize) -> Resul
     ensures all { IfOk result (λ bytes. TakesFront (S.left source.old) bytes.items (S.left source.new)) }
     ensures to_the_end { OnOk result (IsAtEnd (S.left source.new)) }
     ensures within { IfOk result (λ bytes. length bytes.items ≤ limit) }
+    ensures calm { OnOk result (S.faults source.new ≡ S.faults source.old) }
     ensures failed { IsErrOf result ReadAll.Failed → Rose (S.faults source.old) (S.faults source.new) }
     ensures too_long { IsErrOf result ReadAll.TooLong →
         ((front : List ℕ) × (length front ≡ limit + 1) × TakesFront (S.left source.old) front (S.left source.new)) }
@@ -58,6 +59,7 @@ pub fn read_all<S: Source>(alloc: Global, source: &mut S, limit: usize) -> Resul
 /// Writes all bytes. After an error the sink has taken a prefix of them.
 pub fn write_all<O: Sink>(sink: &mut O, bytes: &[u8]) -> Result<(), SinkFault>
     ensures all { OnOk result (O.taken sink.new ≡ grown O.after (O.taken sink.old) bytes.now) }
+    ensures calm { OnOk result (O.faults sink.new ≡ O.faults sink.old) }
     ensures failed { OnErr result (Rose (O.faults sink.old) (O.faults sink.new)) }
     ensures prefix { GrewByPrefix O.after (O.taken sink.old) (O.taken sink.new) bytes.now }
     ensures never_falls { O.faults sink.old ≤ O.faults sink.new }

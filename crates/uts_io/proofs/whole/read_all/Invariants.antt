@@ -1,4 +1,4 @@
-use Rattle.std.proofs.Common.{◌-◌, ◌+◌, ◌≤◌, vec_len}
+use Rattle.std.proofs.Common.{◌≡◌, ◌-◌, ◌+◌, ◌≤◌, vec_len}
 use Rattle.uts_io.specs.Streams.{TakesFront}
 use Rattle.uts_io.proofs.whole.read_all.Given as goal
 
@@ -7,7 +7,7 @@ abbrev pub invariant-loop-n : goal.invariant-loop-n
 invariant-loop-n g l = record {
   within : vec_len l.bytes ≤ l.limit;
   takes : TakesFront (g.S.Source.left l.fn.source) l.bytes.items (g.S.Source.left l.source);
-  never_falls : g.S.Source.faults l.fn.source ≤ g.S.Source.faults l.source;
+  calm : g.S.Source.faults l.source ≡ g.S.Source.faults l.fn.source;
 }
 
 abbrev pub decreases-loop-n : goal.decreases-loop-n

@@ -9,5 +9,5 @@ loop-rest-preserved g c = record {
   front = c.loop-rest.invariant.front ++ take c.in-Took.n c.loop-rest.rest.now;
   splits = cut_further _ c.loop-rest.invariant.front c.loop-rest.rest.now c.in-Took.n c.loop-rest.invariant.splits;
   grew = grew_both _ _ _ _ _ _ g.met.O.Sink.after_both c.loop-rest.invariant.grew c.in-Took.ensures.took.2;
-  never_falls = omega arith;
+  calm = grind arith;
 }
