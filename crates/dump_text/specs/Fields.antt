@@ -5,9 +5,8 @@ use Rattle.uts_geom.specs.Spans.{counted}
 use Rattle.problem_types.specs.Lists.{task_list, computes, centring_of}
 use Rattle.problem_types.specs.Regions.{spaces_of}
 use Rattle.probes.specs.declared.row.Row.{Row}
-use Rattle.uts_model.specs.Dump.{Shown, Field, shown_fields, field_rows, field_text, keep_rows, keep_text}
+use Rattle.uts_model.specs.Dump.{Shown, Field, shown_fields, row_shown, field_rows, field_text, keep_rows, keep_text}
 use Rattle.task_check.specs.Bounds.{IsBounded}
-use Rattle.dump_text.specs.Showing.{row_shown}
 use Rattle.dump_text.specs.declared.field.Kept.{Kept}
 use Rattle.dump_text.specs.declared.place.Place.{Place}
 

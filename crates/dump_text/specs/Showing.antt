@@ -12,18 +12,6 @@ use Rattle.dump_text.specs.Writing.{Writes}
 abbrev pub probe_line : List ℕ → List ℕ
 probe_line text = line (codes "# " ++ text)
 
--- the row of a field at y and z
-abbrev pub row_shown : Shown → (step keep name : ℕ) → Field → ℤ × ℤ → Row
-row_shown shown step keep name f at = record {
-  step = step;
-  keep = keep;
-  material = f.material;
-  level = f.level;
-  y = at.0;
-  z = at.1;
-  values = shown.row name f.material f.level at.0 at.1;
-}
-
 -- Where a dump stands: what the sink has taken and how often it failed, what the supplier has, and what the probes mean.
 pub record Scene : Type 0 where
   pub taken : Option (List ℕ)

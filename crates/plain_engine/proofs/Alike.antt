@@ -9,7 +9,7 @@ use Rattle.problem_types.specs.Lists.{variable_named}
 use Rattle.problem_types.specs.declared.problem.Problem.{Problem}
 use Rattle.problem_types.specs.declared.problem.Keep.{Keep}
 use Rattle.probes.specs.declared.row.Row.{Row}
-use Rattle.uts_model.specs.Dump.{Shown, Field, shown_fields, field_line, name_text, field_text, row_line, number_line, keep_text, step_line, step_text}
+use Rattle.uts_model.specs.Dump.{Shown, Field, shown_fields, row_shown, field_line, name_text, field_text, row_line, number_line, keep_text, step_line, step_text}
 use Rattle.kernel_sweeps.specs.Lists.{flat_map-same}
 use Rattle.plain_engine.proofs.Lists.{map-alike, flat_map-alike}
 use Rattle.dump_text.specs.Supplies.{shown_by, HasField, HasKept, HasAllKept}
@@ -25,35 +25,20 @@ module _ (p : Problem) (step : ℕ) (rows : ℕ → ℕ → ℕ → ℤ → ℤ 
   abbrev supplied : Shown
   supplied = shown_by rows numbers
 
-  abbrev row_at : Shown → (keep name : ℕ) → Field → ℤ × ℤ → Row
-  row_at s keep name f at = record {
-    step = step;
-    keep = keep;
-    material = f.material;
-    level = f.level;
-    y = at.0;
-    z = at.1;
-    values = s.row name f.material f.level at.0 at.1;
-  }
+  -- where each row shows the same numbers
+  abbrev row_of_numbers : (keep name : ℕ) → Field → ℤ × ℤ → List ℤ → Row
+  row_of_numbers keep name f at numbers =
+      let everywhere : Shown = record { row = λ n m l y z. numbers; number = shown.number } in row_shown everywhere step keep name f at
 
   same_row : (keep name : ℕ) (f : Field) (at : ℤ × ℤ) → IsSome (rows name f.material f.level at.0 at.1) →
-      row_at supplied keep name f at ≡ row_at shown keep name f at
-  same_row keep name f at has =
-      ap (λ (numbers : List ℤ). let row : Row = record {
-        step = step;
-        keep = keep;
-        material = f.material;
-        level = f.level;
-        y = at.0;
-        z = at.1;
-        values = numbers;
-      } in row) (supplies.same_rows name f.material f.level at.0 at.1 has)
+      row_shown supplied step keep name f at ≡ row_shown shown step keep name f at
+  same_row keep name f at has = ap (row_of_numbers keep name f at) (supplies.same_rows name f.material f.level at.0 at.1 has)
 
   same_field : (keep name : ℕ) (f : Field) → HasField rows name f →
       field_text p supplied step keep name f ≡ field_text p shown step keep name f
   same_field keep name f has =
       ap (λ (all : List Row). field_line (name_text p name) f ++ flat_map row_line all)
-      (map-alike (λ at. IsSome (rows name f.material f.level at.0 at.1)) (row_at supplied keep name f) (row_at shown keep name f)
+      (map-alike (λ at. IsSome (rows name f.material f.level at.0 at.1)) (row_shown supplied step keep name f) (row_shown shown step keep name f)
       (same_row keep name f) (rows_of f.span) has)
 
   same_kept : (place : ℕ) (keep : Keep) → HasKept p step rows numbers keep → (declared : Bool) → is_some (variable_named p keep.name) ≡ declared →

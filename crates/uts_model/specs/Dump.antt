@@ -43,18 +43,21 @@ shown_fields p step name =
     then map (λ s. record { material = material; level = level; span = s }) (spaces_of p level (centring_of p name))
     else []) (counted 0 (length p.levels))) (counted 0 p.materials.value)
 
+-- the row of a field at y and z
+abbrev pub row_shown : Shown → (step keep name : ℕ) → Field → ℤ × ℤ → Row
+row_shown shown step keep name f at = record {
+  step = step;
+  keep = keep;
+  material = f.material;
+  level = f.level;
+  y = at.0;
+  z = at.1;
+  values = shown.row name f.material f.level at.0 at.1;
+}
+
 -- the rows of a field, z outermost, then y
 abbrev pub field_rows : Shown → (step keep name : ℕ) → Field → List Row
-field_rows shown step keep name f =
-    map (λ at. record {
-      step = step;
-      keep = keep;
-      material = f.material;
-      level = f.level;
-      y = at.0;
-      z = at.1;
-      values = shown.row name f.material f.level at.0 at.1;
-    }) (rows_of f.span)
+field_rows shown step keep name f = map (row_shown shown step keep name f) (rows_of f.span)
 
 -- a line with its line feed
 abbrev pub line : List ℕ → List ℕ
