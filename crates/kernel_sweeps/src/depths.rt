@@ -1,5 +1,5 @@
 //! How deep kernels are.
-ghost use Rattle.std.specs.Prelude.{◌≤◌, All};
+ghost use Rattle.std.specs.Prelude.{ℕ, ◌≤◌, All};
 ghost use Rattle.problem_types.specs.Form.{AreTasksInForm, IsWriteInForm};
 ghost use Rattle.kernel_sweeps.specs.Room.{AreAtMostDeep, IsAtMostDeep};
 
@@ -10,6 +10,7 @@ use problem_types::{Task, Write};
 fn deepest_line(writes: &[Write], names: usize) -> u32
     requires { All (IsWriteInForm names) writes.now }
     ensures deep { All (IsAtMostDeep result) writes.now }
+    ensures least { (bound : ℕ) → All (IsAtMostDeep bound) writes.now → result ≤ bound }
     ensures shallow { result ≤ 64 }
 {
     let mut deepest = 0;
@@ -23,6 +24,7 @@ fn deepest_line(writes: &[Write], names: usize) -> u32
 pub fn deepest_kernel(tasks: &[Task], names: usize) -> u32
     requires { AreTasksInForm names tasks.now }
     ensures deep { All (AreAtMostDeep result) tasks.now }
+    ensures least { (bound : ℕ) → All (AreAtMostDeep bound) tasks.now → result ≤ bound }
     ensures shallow { result ≤ 64 }
 {
     let mut deepest = 0;

@@ -17,6 +17,9 @@ loop-write-preserved c =
           (All-weaker (IsAtMostDeep c.loop-write.deepest) (IsAtMostDeep c.max-deepest.result)
           (λ w deep. omega (arith, deep, c.max-deepest.ensures)) (take i writes) loop.deep)
           (subst (IsAtMostDeep c.max-deepest.result) c.write-item.is here);
+      least = λ bound all.
+          let item : IsAtMostDeep bound c.write-item.result = subst (IsAtMostDeep bound) (sym c.write-item.is) (all i c.write-item.result (omega arith)) in
+          omega (arith, loop.least bound all, item, c.max-deepest.ensures, c.depth.ensures);
       shallow = omega (arith, loop.shallow, c.max-deepest.ensures, c.depth.ensures, form.expr.shallow);
     }
 
