@@ -1,5 +1,5 @@
 -- What holds of each meaning in a table of words holds of what a token means by it.
-use Rattle.std.proofs.Common.{◌≡◌, ℕ, Bool, true, false, List, [], ◌∷◌, Option, Some, None, ◌⊎◌, inl, inr, subst}
+use Rattle.std.proofs.Common.{◌≡◌, ℕ, Bool, true, false, List, [], ◌∷◌, Option, Some, ◌⊎◌, inl, inr, subst}
 use Rattle.std.specs.Prelude.{if◌then◌else◌}
 use Rattle.uts_lex.specs.Lexemes.{Lexeme}
 use Rattle.kernel_parse.specs.Signs.{is_word, meaning_in}

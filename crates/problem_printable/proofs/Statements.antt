@@ -1,16 +1,14 @@
 -- A statement that well spelled tokens spell: how the names grow by it, and that its numbers can be spelled.
-use Rattle.std.proofs.Common.{◌≡◌, ℕ, ◌≤◌, List, [], ◌∷◌, ◌++◌, Some, None, inl, inr, codes, map, refl, subst, length, arith, if◌then◌else◌}
+use Rattle.std.proofs.Common.{ℕ, ◌≤◌, List, [], ◌∷◌, ◌++◌, codes, map, refl, length, arith}
 use Rattle.std.proofs.lemmas.List.Elements.{All-nil, All-cons}
 use Rattle.uts_lex.specs.Lexemes.{Lexeme}
 use Rattle.uts_lex.specs.Names.{number_of, with_name}
 use Rattle.kernel_ast.specs.Form.{IsExpressionInForm}
 use Rattle.kernel_ast.specs.declared.expression.Expr.{Expr}
-use Rattle.kernel_parse.specs.Signs.{word, number, sign, is_word}
+use Rattle.kernel_parse.specs.Signs.{word, number, sign}
 use Rattle.kernel_parse.specs.Grammar.{Words, SpellsExpression}
 use Rattle.problem_types.specs.Form.{AreLayersInForm}
 use Rattle.problem_types.specs.declared.problem.Ghost.{Ghost}
-use Rattle.problem_types.specs.declared.problem.GhostKind.{GhostKind}
-use Rattle.problem_types.specs.declared.problem.GhostKind.TheVariants as ghosts
 use Rattle.problem_types.specs.declared.problem.What.{What}
 use Rattle.problem_types.specs.declared.problem.WriteKind.{WriteKind}
 use Rattle.statement_parse.specs.Grammar.{Fits, SpellsCorners, corners, SpellsLayers, no_layers, layers, SpellsWhat, same_level, coarser, finer, reduction, SpellsTarget, computes, modifies, reduces, SpellsStatement, version, steps, dump, ghost_limit, materials, level, box, patch, var, fold, init, task, requirement, writes, timestep, keep, end, IsFree}

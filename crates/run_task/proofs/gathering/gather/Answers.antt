@@ -1,7 +1,7 @@
 use Rattle.std.proofs.Common.{◌≡◌, ◌∙◌, ◌+◌, take, ap, sym, subst}
 use Rattle.std.proofs.lemmas.Option.{same_Some}
 use Rattle.problem_types.specs.Lists.{task_list}
-use Rattle.task_check.specs.Plan.{Detail, Slot as SlotOfTask}
+use Rattle.task_check.specs.Plan.{Slot as SlotOfTask}
 use Rattle.graph_compiler.specs.Shown.{shown_slot}
 use Rattle.graph_compiler.specs.declared.plan.Slot.{Slot}
 use Rattle.run_task.specs.Gathered.{IsWork, slots_read}
