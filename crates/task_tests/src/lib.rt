@@ -2,9 +2,9 @@
 #![tactic(auto)]
 
 #[cfg(test)]
-mod firsts;
+mod compared;
 #[cfg(test)]
-mod found;
+mod firsts;
 #[cfg(test)]
 mod later;
 mod olds;
