@@ -1,8 +1,8 @@
 //! What steps leave, compared with what plain recursion finds.
 use crate::problems::{DOUBLING, FINE_SUMS, MODIFY, REDUCTIONS, checked};
-use crate::runs::values;
+use crate::runs::{step_plan, values};
 use field_box::{Field, Value};
-use graph_compiler::{Slot, SlotKind, compile, kind_of, plans_are_valid};
+use graph_compiler::{Slot, SlotKind};
 use graph_types::NoMemory;
 use problem_types::Problem;
 use std::alloc::Global;
@@ -124,9 +124,8 @@ fn are_found(m: Moment, slots: &[Slot], places: &[Option<Value>]) -> bool {
 
 /// How many slots a step leaves, where all of them have what is found.
 fn slots_found(alloc: Global, c: &Checked, step: u32) -> Result<Option<usize>, NoMemory> {
-    plans_are_valid();
-    let Ok(plan) = compile(alloc, c, kind_of(c, step)) else {
-        return Err(NoMemory);
+    let Some(plan) = step_plan(alloc, c, step)? else {
+        return Ok(None);
     };
     let places = values(alloc, c, &plan, step)?;
     let slots = plan.slots.as_slice();

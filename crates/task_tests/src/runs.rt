@@ -17,6 +17,19 @@ use std::alloc::Global;
 use std::test::Fail;
 use task_check::Checked;
 
+/// The plan of a step; none behind the last step.
+pub(crate) fn step_plan(alloc: Global, c: &Checked, step: u32) -> Result<Option<Plan>, NoMemory>
+    ensures { IfOk result (λ found. IfSome found (λ plan. IsPlanFor c.now step plan)) }
+{
+    if u64::from(step) > c.problem().steps.value {
+        return Ok(None);
+    }
+    match compile(alloc, c, kind_of(c, step)) {
+        Ok(plan) => Ok(Some(plan)),
+        Err(_) => Err(NoMemory),
+    }
+}
+
 /// One value for each old slot of a step. None where one of them holds a variable, and behind the fourth step.
 fn old_values(
     alloc: Global,
@@ -46,6 +59,8 @@ pub(crate) fn values(
 ) -> Result<Vec<Option<Value>>, NoMemory>
     requires compiled { IsPlanFor c.now step plan.now }
 {
+    plans_are_valid();
+    let _problem = c.problem();
     let Some(old) = old_values(alloc, c, plan, step)? else {
         return Ok(Vec::new(alloc));
     };
@@ -60,9 +75,8 @@ pub(crate) fn ran(alloc: Global, text: &str, step: u32) -> Result<Vec<Option<Val
 }
 
 fn run_step(alloc: Global, c: &Checked, step: u32) -> Result<Vec<Option<Value>>, NoMemory> {
-    plans_are_valid();
-    let Ok(plan) = compile(alloc, c, kind_of(c, step)) else {
-        return Err(NoMemory);
-    };
-    values(alloc, c, &plan, step)
+    match step_plan(alloc, c, step)? {
+        Some(plan) => values(alloc, c, &plan, step),
+        None => Ok(Vec::new(alloc)),
+    }
 }

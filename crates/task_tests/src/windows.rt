@@ -1,6 +1,6 @@
 //! What detailed tasks see of variables, along x.
 use crate::problems::{WINDOWS, checked};
-use graph_compiler::{compile, kind_of, plans_are_valid};
+use crate::runs::step_plan;
 use graph_types::NoMemory;
 use kernel_eval::Part;
 use run_task::{StepJob, Work};
@@ -23,9 +23,8 @@ fn reaches(alloc: Global, parts: &[Part]) -> Result<Vec<[i64; 2]>, NoMemory> {
 
 /// The same of the second detailed task of step 1, before it has gathered anything.
 fn second_windows(alloc: Global, c: &Checked) -> Result<Vec<[i64; 2]>, NoMemory> {
-    plans_are_valid();
-    let Ok(plan) = compile(alloc, c, kind_of(c, 1)) else {
-        return Err(NoMemory);
+    let Some(plan) = step_plan(alloc, c, 1)? else {
+        return Ok(Vec::new(alloc));
     };
     if plan.graph.tasks < 2 {
         return Ok(Vec::new(alloc));
