@@ -1,5 +1,5 @@
 -- Calls that write to one sink, alone and in turn.
-use Rattle.std.proofs.Common.{◌≡◌, ◌∙◌, ◌≤◌, ℕ, List, [], ◌++◌, Option, Result, Ok, Err, ap, sym, subst, arith, append-nil, ◌∷◌}
+use Rattle.std.proofs.Common.{◌≡◌, ◌∙◌, ℕ, List, [], ◌++◌, Option, Result, Ok, Err, ap, refl, sym, subst, arith, append-nil, ◌∷◌}
 use Rattle.std.specs.List.{flat_map}
 use Rattle.std.proofs.lemmas.Grind.{flat_map-append}
 use Rattle.std.proofs.lemmas.Result.{on_ok_weaker}
@@ -10,13 +10,14 @@ use Rattle.dump_text.specs.declared.fault.RunFault.TheVariants.{SinkFault, NoMem
 
 module _ (after : List ℕ → List ℕ → List ℕ) (old new : Option (List ℕ)) (before now : ℕ) where
   -- a call that wrote all
-  pub all_written : {T : Type 0} (x : T) (text : List ℕ) → new ≡ grown after old text → before ≤ now →
+  pub all_written : {T : Type 0} (x : T) (text : List ℕ) → new ≡ grown after old text → now ≡ before →
       Writes after old new before now (Ok x) text
-  all_written x text grew le = record {
+  all_written x text grew same = record {
     all = grew;
     prefix = prefix_of_all after old new text grew;
+    calm = same;
     fault = λ h. cc;
-    never_falls = le;
+    never_falls = omega arith;
   }
 
   -- a failed call wrote a prefix of more bytes too, and its failure may be handed on
@@ -25,6 +26,7 @@ module _ (after : List ℕ → List ℕ → List ℕ) (old new : Option (List �
   writes_less e r r' text rest was is w = record {
     all = rw is tt;
     prefix = prefix_of_more rest w.prefix;
+    calm = rw is tt;
     fault = λ h. let same : e ≡ SinkFault = cc in w.fault (was ∙ ap Err same);
     never_falls = w.never_falls;
   }
@@ -40,6 +42,7 @@ pub nothing_written : (after : List ℕ → List ℕ → List ℕ) (none : NoneC
 nothing_written after none old count r text is = record {
   all = rw is tt;
   prefix = prefix_of_nothing after old text none;
+  calm = rw is tt;
   fault = λ h. cc;
   never_falls = omega arith;
 }
@@ -47,7 +50,7 @@ nothing_written after none old count r text is = record {
 -- a call that had nothing to write
 pub none_written : (after : List ℕ → List ℕ → List ℕ) (none : NoneChangeNothing after) (old : Option (List ℕ)) (count : ℕ)
     {T : Type 0} (x : T) → Writes after old old count count (Ok x) []
-none_written after none old count x = all_written after old old count count x [] (sym (grown-nil after old none)) (omega arith)
+none_written after none old count x = all_written after old old count count x [] (sym (grown-nil after old none)) refl
 
 -- a call after some bytes that were written
 pub then_writes : (after : List ℕ → List ℕ → List ℕ) (join : PiecesJoin after) (old mid new : Option (List ℕ)) (before between now : ℕ)
@@ -56,6 +59,7 @@ pub then_writes : (after : List ℕ → List ℕ → List ℕ) (join : PiecesJoi
 then_writes after join old mid new before between now x r a b first w = record {
   all = on_ok_weaker r (λ then. grew_both after old mid new a b join first.all then) w.all;
   prefix = prefix_after old a join first.all w.prefix;
+  calm = on_ok_weaker r (λ calm. calm ∙ first.calm) w.calm;
   fault = λ h. Rose-earlier before between now first.never_falls (w.fault h);
   never_falls = omega (arith, first.never_falls, w.never_falls);
 }

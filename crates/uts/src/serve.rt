@@ -36,6 +36,7 @@ fn read_problem<R: Source>(alloc: Global, source: &mut R) -> Result<Checked, Fai
     ensures ended { OnOk result (IsAtEnd (R.left source.new)) }
     ensures spelled { IfOk result (λ p. IfSome (R.left source.old) (λ text. (length text ≤ 2 ^ 20) × Spells text p)) }
     ensures accepted { IfOk result IsAccepted }
+    ensures calm { OnOk result (R.faults source.new ≡ R.faults source.old) }
     ensures reason { IfErr result (IsReason (R.left source.old) (Rose (R.faults source.old) (R.faults source.new)) ⊥) }
     ensures never_falls { R.faults source.old ≤ R.faults source.new }
 {
@@ -52,6 +53,7 @@ fn write_answer<O: Sink>(
 ) -> Result<(), RunFault>
     ensures all { OnOk result (O.taken out.new ≡ grown O.after (O.taken out.old) (bytes_of command checked.now)) }
     ensures prefix { GrewByPrefix O.after (O.taken out.old) (O.taken out.new) (bytes_of command checked.now) }
+    ensures calm { OnOk result (O.faults out.new ≡ O.faults out.old) }
     ensures fault { IsErrOf result RunFault.SinkFault → Rose (O.faults out.old) (O.faults out.new) }
     ensures never_falls { O.faults out.old ≤ O.faults out.new }
 {
@@ -72,6 +74,7 @@ pub fn serve<R: Source, O: Sink>(
     ensures ended { OnOk result (IsAtEnd (R.left source.new)) }
     ensures done { OnOk result (IfSome (R.left source.old) (λ text. (length text ≤ 2 ^ 20) × ((p : Problem) × Spells text p
         × IsAccepted p × (O.taken out.new ≡ grown O.after (O.taken out.old) (bytes_of command p))))) }
+    ensures calm { OnOk result ((R.faults source.new ≡ R.faults source.old) × (O.faults out.new ≡ O.faults out.old)) }
     ensures reason { IfErr result (IsReason (R.left source.old) (Rose (R.faults source.old) (R.faults source.new))
         (Rose (O.faults out.old) (O.faults out.new))) }
     ensures unrefused { IsErrOf result Failure.WriteFault → IfSome (R.left source.old) (λ text. IsRefused text → ⊥) }

@@ -34,6 +34,10 @@ pub fn quiet_top<R: Source, O: Sink, E: Sink>(
     ensures done { result ≡ 0 → IfSome (R.left source.old) (λ text. (bytes : List ℕ) × Answers words.now text 0 bytes
         × (O.taken out.new ≡ grown O.after (O.taken out.old) bytes)) }
 
+    // Done only where no fault came.
+    ensures calm { result ≡ 0 → (R.faults source.new ≡ R.faults source.old) × (O.faults out.new ≡ O.faults out.old)
+        × (E.faults err.new ≡ E.faults err.old) }
+
     // The cause of each other status.
     ensures refused { result ≡ 1 → IfSome (R.left source.old) (λ text. Answers words.now text 1 []) }
     ensures read_fault { result ≡ 3 → Rose (R.faults source.old) (R.faults source.new) }

@@ -39,7 +39,7 @@ loop-number-preserved g c =
     record {
       warehouse = done.warehouse;
       state = done.state ∙ sym (before_next p k);
-      written = rw (counted-more k) (all_written g.O.Sink.after _ _ _ _ tt (flat_map (text_of_step p) (counted 0 k ++ k ∷ [])) next.all next.never_falls);
+      written = rw (counted-more k) (all_written g.O.Sink.after _ _ _ _ tt (flat_map (text_of_step p) (counted 0 k ++ k ∷ [])) next.all next.calm);
     }
 
 pub returns : goal.returns
