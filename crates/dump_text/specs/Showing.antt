@@ -3,7 +3,7 @@ use Rattle.std.specs.Prelude.{◌≡◌, ℕ, ℤ, List, ◌++◌, Option, Resul
 use Rattle.std.specs.List.{AllZip}
 use Rattle.probes.specs.declared.row.Row.{Row}
 use Rattle.probes.specs.Watching.{Meaning, after_rows}
-use Rattle.uts_model.specs.Dump.{Shown, Field, line}
+use Rattle.uts_model.specs.Dump.{Shown, line}
 use Rattle.dump_text.specs.declared.fault.RunFault.{RunFault}
 use Rattle.dump_text.specs.Supplies.{shown_by, HasSeenSome}
 use Rattle.dump_text.specs.Writing.{Writes}

@@ -16,6 +16,7 @@ use uts_io::{Sink, SinkFault, write_all};
 #[tactic(auto, unfolding(uts_model::specs::Dump::begin_text))]
 pub fn dump_begin<O: Sink>(sink: &mut O) -> Result<(), SinkFault>
     ensures all { OnOk result (O.taken sink.new ≡ grown O.after (O.taken sink.old) begin_text) }
+    ensures calm { OnOk result (O.faults sink.new ≡ O.faults sink.old) }
     ensures failed { OnErr result (Rose (O.faults sink.old) (O.faults sink.new)) }
     ensures prefix { GrewByPrefix O.after (O.taken sink.old) (O.taken sink.new) begin_text }
     ensures never_falls { O.faults sink.old ≤ O.faults sink.new }

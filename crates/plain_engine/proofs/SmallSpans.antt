@@ -6,7 +6,7 @@ use Rattle.std.specs.List.{flat_map}
 use Rattle.std.specs.Option.{option_map_or}
 use Rattle.std.proofs.lemmas.Int.{ints}
 use Rattle.std.proofs.lemmas.List.Elements.{All-head}
-use Rattle.uts_geom.specs.Spans.{IsNearNumber, IsNearSpan, width_of, indexes_of as indexes_of_span}
+use Rattle.uts_geom.specs.Spans.{IsNearSpan, width_of, indexes_of as indexes_of_span}
 use Rattle.uts_geom.specs.Centrings.{is_point_like}
 use Rattle.uts_geom.specs.declared.centring.Axis.TheVariants.{X}
 use Rattle.uts_geom.specs.declared.centring.Centring.{Centring}

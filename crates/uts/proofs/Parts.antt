@@ -1,5 +1,5 @@
 -- The listing of a problem is its parts in turn.
-use Rattle.std.proofs.Common.{◌≡◌, ◌∙◌, ◌<◌, ◌+◌, ℕ, List, [], ◌∷◌, ◌++◌, codes, length, take, drop, get_or, ap, sym, refl, append-nil, append_assoc}
+use Rattle.std.proofs.Common.{◌≡◌, ◌∙◌, ◌<◌, ◌+◌, ℕ, List, [], ◌∷◌, ◌++◌, codes, length, take, drop, get_or, ap, sym, append-nil, append_assoc}
 use Rattle.std.specs.List.{flat_map}
 use Rattle.std.proofs.lemmas.Grind.{flat_map-append}
 use Rattle.std.proofs.lemmas.List.{take-append-drop, take_more}
@@ -7,7 +7,7 @@ use Rattle.problem_types.specs.declared.problem.Problem.{Problem}
 use Rattle.graph_compiler.specs.Plan.{plan_of}
 use Rattle.graph_compiler.specs.declared.plan.ListKind.TheVariants.{Init, Timestep}
 use Rattle.graph_text.specs.Listing.{listed, lines_of_plans, listing_bytes, plan_lines}
-use Rattle.uts.specs.Listed.{list_text, plans_text, timestep_text}
+use Rattle.uts.specs.Listed.{list_text, plans_text}
 
 pub in_parts : (p : Problem) → listing_bytes p ≡ codes "graph 1\n" ++ plans_text p
 unfolding lines_of_plans

@@ -1,5 +1,5 @@
 -- What follows where a source tells its text.
-use Rattle.std.proofs.Common.{◌≡◌, ◌≤◌, ◌^◌, inl, inr, ℕ, List, length, Option, None, Some, IfSome, arith, refl, subst}
+use Rattle.std.proofs.Common.{◌≤◌, ◌^◌, inl, inr, ℕ, List, length, Option, None, Some, IfSome, arith, subst}
 use Rattle.uts_io.specs.Streams.{GrewByPrefix, NoneChangeNothing, prefix_of_nothing}
 use Rattle.problem_types.specs.declared.problem.Problem.{Problem}
 use Rattle.problem_file.specs.Grammar.{Spells}

@@ -1,9 +1,7 @@
-use Rattle.std.proofs.Common.{◌≡◌, ◌∙◌, ◌<◌, ◌+◌, ◌++◌, ◌∷◌, [], ℕ, List, Err, Ok, length, take, drop, get_or, ap, sym, refl, arith}
-use Rattle.std.specs.List.{flat_map}
-use Rattle.std.proofs.lemmas.List.{take_all, take_more}
+use Rattle.std.proofs.Common.{◌∙◌, ◌<◌, ◌+◌, [], Err, length, take, drop, get_or, ap, refl, arith}
+use Rattle.std.proofs.lemmas.List.{take_more}
 use Rattle.std.proofs.lemmas.Option.{slice_get-get_or}
 use Rattle.std.proofs.lemmas.Result.{err_from_is_err_and}
-use Rattle.dump_text.specs.Writing.{Writes}
 use Rattle.dump_text.specs.Written.{writes_next, writes_stopped}
 use Rattle.uts.proofs.Parts.{lines_split}
 use Rattle.uts.proofs.listing.write_lines.Goals as goal

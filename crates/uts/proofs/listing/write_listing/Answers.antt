@@ -1,6 +1,5 @@
-use Rattle.std.proofs.Common.{◌∙◌, ℕ, List, Err, ap, refl, subst, sym}
+use Rattle.std.proofs.Common.{◌∙◌, Err, ap, refl}
 use Rattle.std.proofs.lemmas.Result.{err_from_is_err_and}
-use Rattle.dump_text.specs.Writing.{Writes}
 use Rattle.dump_text.specs.Written.{then_writes, writes_less}
 use Rattle.uts.proofs.Parts.{in_parts}
 use Rattle.uts.proofs.listing.write_listing.Goals as goal
