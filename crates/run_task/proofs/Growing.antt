@@ -9,8 +9,7 @@ use Rattle.task_check.specs.Plan.{Slot}
 use Rattle.field_box.specs.declared.value.Value.{Value}
 use Rattle.kernel_eval.specs.declared.part.Part.{Part}
 use Rattle.kernel_eval.specs.declared.windows.Given.{Given}
-use Rattle.run_task.specs.Begun.{AreRoomFor}
-use Rattle.run_task.specs.Gathered.{AreGiven, AreParts, IsGivenFor, IsPartOf, IsRoomFor, HasSeen}
+use Rattle.run_task.specs.Gathered.{AreGiven, AreParts, AreRoomFor, IsGivenFor, IsPartOf, IsRoomFor, HasSeen}
 use Rattle.run_task.specs.declared.work.Site.{Site}
 
 paired_more : {A B : Type 0} (P : A → B → Type 0) (xs : List A) (ys : List B) (x : A) (y : B) → length ys ≡ length xs →

@@ -106,10 +106,14 @@ abbrev pub IsRoomFor : Problem → Site → Write → Value → Type 0
 IsRoomFor p site w (value.Grid f) = (is_of_field w.kind ≡ true) × (f.span ≡ owned_on p site.level site.patch (centring_of p w.name))
 IsRoomFor p site w (value.Number n) = is_reduces w.kind ≡ true
 
--- there is room for what each line writes, and for its kernel
+-- there is room for what each of these lines writes, in their order
+pub record AreRoomFor (p : Problem) (site : Site) (writes : List Write) (outputs : List Value) : Type 0 where
+  pub many : length outputs ≡ length writes
+  pub each : (line : ℕ) (w : Write) (made : Value) → slice_get writes line ≡ Some w → slice_get outputs line ≡ Some made → IsRoomFor p site w made
+
+-- there is room for what each line of a task writes, and for its kernel
 pub record HasRoom (p : Problem) (t : Task) (site : Site) (outputs : List Value) (places : ℕ) : Type 0 where
-  pub many : length outputs ≡ length t.writes
-  pub each : (line : ℕ) (w : Write) (made : Value) → slice_get t.writes line ≡ Some w → slice_get outputs line ≡ Some made → IsRoomFor p site w made
+  pub outputs_for : AreRoomFor p site t.writes outputs
   pub enough : (line : ℕ) (w : Write) → slice_get t.writes line ≡ Some w
       → room_on w.expr (owned_on p site.level site.patch (kernel_centring p w)) ≤ places
 

@@ -4,4 +4,3 @@ pub mod Putting
 pub mod Sites
 pub mod Seen
 pub mod Written
-pub mod Begun

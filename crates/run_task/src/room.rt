@@ -5,8 +5,7 @@ ghost use Rattle.uts_geom.specs.declared.centring.Centring.{Centring as AnyCentr
 ghost use Rattle.problem_types.specs.declared.problem.Write.{Write};
 ghost use Rattle.kernel_sweeps.specs.Room.{IsAtMostDeep, room_on};
 ghost use Rattle.slot_contents.specs.Contents.{owned_on};
-ghost use Rattle.run_task.specs.Begun.{AreRoomFor};
-ghost use Rattle.run_task.specs.Gathered.{IsRoomFor};
+ghost use Rattle.run_task.specs.Gathered.{AreRoomFor, IsRoomFor};
 ghost use Rattle.run_task.specs.Sites.{IsPlaced};
 
 use crate::job::StepJob;

@@ -24,8 +24,7 @@ returns c =
     record {
       windows = c.in_ok-windows.ensures;
       room = record {
-        many = c.in_ok-outputs.ensures.many;
-        each = c.in_ok-outputs.ensures.each;
+        outputs_for = c.in_ok-outputs.ensures;
         enough = λ line w at.
             let deep = holds_at (IsAtMostDeep depth) t.writes line w lines at in
             omega (arith, c.places_for.ensures w (kernel_centring p w) deep, c.in_ok-scratch.ensures.len);

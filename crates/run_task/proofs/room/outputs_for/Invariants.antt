@@ -1,5 +1,5 @@
 use Rattle.std.proofs.Common.{take}
-use Rattle.run_task.specs.Begun.{AreRoomFor}
+use Rattle.run_task.specs.Gathered.{AreRoomFor}
 use Rattle.run_task.proofs.room.outputs_for.Given as goal
 
 -- there is room for the lines so far

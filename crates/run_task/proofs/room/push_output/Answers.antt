@@ -1,6 +1,6 @@
 use Rattle.std.proofs.Common.{List, [], ◌∷◌, ◌++◌, sym, subst}
 use Rattle.field_box.specs.declared.value.Value.{Value}
-use Rattle.run_task.specs.Begun.{AreRoomFor}
+use Rattle.run_task.specs.Gathered.{AreRoomFor}
 use Rattle.run_task.proofs.Growing.{room_more}
 use Rattle.run_task.proofs.room.push_output.Goals as goal
 
