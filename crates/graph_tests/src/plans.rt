@@ -1,10 +1,9 @@
 //! Plans of small problems, worked out by hand.
+use crate::checked;
 use graph_compiler::{Detail, ListKind, Plan, StepKind, compile, kind_of};
-use problem_file::parse;
 use sqlite_items::Items;
 use std::alloc::Global;
 use std::test::Fail;
-use task_check::{Checked, check};
 
 /// `u` in two patches, computed, and then from itself by one layer of ghost cells.
 const TWO_PATCHES: &str =
@@ -21,22 +20,6 @@ const WIDE_LEVEL: &str =
 /// Behind the patches: `u`, computed, and then from itself by 8 layers of ghost cells.
 const WIDE_TASKS: &str =
     "var u cell outside 0\ninit\ntask start levels 0 materials 0 1 2 3 4 5 6 7\ncomputes u = x\ntimestep\ntask shift levels 0 materials 0 1 2 3 4 5 6 7\nrequires old u cells 8\ncomputes u = x\nend\n";
-
-/// The texts are shorter.
-const LONGEST: usize = 1 << 20;
-
-fn checked(alloc: Global, text: &str) -> Result<Checked, Fail> {
-    if text.len() >= LONGEST {
-        return Err("too long".into());
-    }
-    let Ok(problem) = parse(alloc, text.as_bytes()) else {
-        return Err("not a problem".into());
-    };
-    match check(problem) {
-        Ok(c) => Ok(c),
-        Err(_) => Err("refused".into()),
-    }
-}
 
 fn kind(list: ListKind, next: bool, dump: bool) -> StepKind {
     StepKind { list, next, dump }

@@ -46,17 +46,23 @@ fn kernel(alloc: Global) -> Result<Expr, AllocError> {
     Ok(Expr::Binary(Op::Sub, x, Boxed::new(alloc, Expr::Read(read))?))
 }
 
-fn folded(rt: &impl Abort, how: Fold, total: i64, kernel: &Expr) -> i64 {
-    assert!(rt; in_form(kernel, 1));
-    let sweep = Sweep {
+/// The kernel over `SPAN`, in step, material and level 0.
+fn sweep(kernel: &Expr) -> Sweep<'_>
+    ensures { result.kernel ≡ kernel × result.span ≡ SPAN }
+{
+    Sweep {
         kernel,
         step: 0,
         material: 0,
         level: 0,
         span: SPAN,
-    };
+    }
+}
+
+fn folded(rt: &impl Abort, how: Fold, total: i64, kernel: &Expr) -> i64 {
+    assert!(rt; in_form(kernel, 1));
     let mut scratch = [99; 387];
-    fold_numbers(how, total, &sweep, &Heights, &mut scratch)
+    fold_numbers(how, total, &sweep(kernel), &Heights, &mut scratch)
 }
 
 #[test]
@@ -72,15 +78,8 @@ fn fill(rt: &impl Abort, kernel: &Expr, field: &mut Field)
     requires { field.old.span ≡ SPAN }
 {
     assert!(rt; in_form(kernel, 1));
-    let sweep = Sweep {
-        kernel,
-        step: 0,
-        material: 0,
-        level: 0,
-        span: SPAN,
-    };
     let mut scratch = [99; 387];
-    fill_field(&sweep, &Heights, field, &mut scratch);
+    fill_field(&sweep(kernel), &Heights, field, &mut scratch);
 }
 
 #[test]

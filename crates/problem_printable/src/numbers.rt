@@ -3,12 +3,12 @@ ghost use Rattle.std.specs.Prelude.{◌↔◌, IsTrue, All, FitsSigned};
 ghost use Rattle.std.specs.Int.{w64};
 ghost use Rattle.statement_parse.specs.Grammar.{AreNumbers};
 ghost use Rattle.problem_file.specs.Statements.{statements_of};
-ghost use Rattle.problem_printable.specs.Printable.{IsCorner, AreLayers, IsWhat, IsSayable};
+ghost use Rattle.problem_printable.specs.Printable.{IsCorner, IsWhat, IsSayable};
 ghost use Rattle.problem_printable.specs.Parts.{IsHeadSayable, IsBoxSayable, IsLevelSayable, IsWriteSayable, IsTaskSayable, AreStatementsSayable};
 
 use crate::expressions::is_sayable;
 use problem_types::{
-    BoxLine, Ghost, GhostKind, Level, Problem, Require, Task, Var, What, Write, is_ascending,
+    BoxLine, Level, Problem, Require, Task, Var, What, Write, are_layers_in_form, is_ascending,
 };
 
 fn are_numbers(numbers: &[u64]) -> bool
@@ -65,24 +65,14 @@ fn are_vars_sayable(vars: &[Var]) -> bool
     vars.iter().all(is_var_sayable)
 }
 
-fn are_layers_sayable(layers: Ghost) -> bool
-    ensures { IsTrue result ↔ AreLayers layers }
-{
-    match layers.kind {
-        GhostKind::None => layers.n == 0,
-        GhostKind::Cells
-        | GhostKind::Nodes
-        | GhostKind::FaceX
-        | GhostKind::FaceY
-        | GhostKind::FaceZ => layers.n >= 1,
-    }
-}
-
 fn is_what_sayable(what: What) -> bool
     ensures { IsTrue result ↔ IsWhat what }
 {
     match what {
-        What::Same { layers, .. } | What::Coarse { layers, .. } => are_layers_sayable(layers),
+        What::Same { layers, .. } | What::Coarse { layers, .. } => {
+            let _layers = layers.n;
+            are_layers_in_form(layers)
+        }
         What::Fine { .. } | What::Number { .. } => true,
     }
 }

@@ -23,7 +23,8 @@ fn is_level_in_form(level: &Level) -> bool
     level.boxes.len() == 1 && level.patches.len() >= 1 && is_short(level.patches.as_slice())
 }
 
-fn are_layers_in_form(layers: Ghost) -> bool
+/// Whether a requirement may name so many layers: none where it names no kind of cells, nodes or faces, else at least one.
+pub fn are_layers_in_form(layers: Ghost) -> bool
     ensures { IsTrue result ↔ AreLayersInForm layers }
 {
     match layers.kind {

@@ -11,7 +11,7 @@ mod problem;
 
 pub use ascending::is_ascending;
 pub use copying::copy;
-pub use form::in_form;
+pub use form::{are_layers_in_form, in_form};
 pub use kernel_ast::{Expr, How, Op, Read, Store};
 pub use lookup::{reduction_of, var_of};
 pub use name::{Name, NoMemory};

@@ -1,8 +1,9 @@
 //! What steps leave, compared with what plain recursion finds.
-use crate::problems::{DOUBLING, FINE_SUMS, MODIFY, REDUCTIONS, checked};
+use crate::problems::{DOUBLING, FINE_SUMS, MODIFY, REDUCTIONS};
 use crate::runs::{step_plan, values};
 use field_box::{Field, Value};
 use graph_compiler::{Slot, SlotKind};
+use graph_tests::checked;
 use graph_types::NoMemory;
 use problem_types::Problem;
 use std::alloc::Global;

@@ -1,8 +1,4 @@
-//! The problems of the tests, and their checked forms.
-use problem_file::parse;
-use std::alloc::Global;
-use std::test::Fail;
-use task_check::{Checked, check};
+//! The problems of the tests.
 
 /// `u` in two patches, and then from its neighbours, by one layer of ghost cells.
 pub(crate) const GHOST_CELLS: &str =
@@ -27,20 +23,3 @@ pub(crate) const DOUBLING: &str =
 /// What a task sees of a variable around the middle one of three patches, with layers of cells, of nodes and without any.
 pub(crate) const WINDOWS: &str =
     "problem 1\nsteps 1\ndump 1\nghost 2\nmaterials 1\nlevel ratio 1\nbox 0 0 0 12 1 1\npatch 0 0 0 4 1 1\npatch 4 0 0 8 1 1\npatch 8 0 0 12 1 1\nvar c cell outside 0\nvar m node outside 0\nvar n node outside 0\nvar k node outside 0\ninit\ntask a levels 0 materials 0\ncomputes c = 1\ncomputes m = 1\ncomputes n = 1\ncomputes k = 1\ntimestep\ntask b levels 0 materials 0\nrequires old c cells 2\nrequires old m cells 2\nrequires old n nodes 2\nrequires old k none\ncomputes c = 1\ncomputes m = 1\ncomputes n = 1\ncomputes k = 1\nkeep c\nend\n";
-
-/// The texts are shorter.
-const LONGEST: usize = 1 << 20;
-
-/// The checked problem of a text.
-pub(crate) fn checked(alloc: Global, text: &str) -> Result<Checked, Fail> {
-    if text.len() >= LONGEST {
-        return Err("too long".into());
-    }
-    let Ok(problem) = parse(alloc, text.as_bytes()) else {
-        return Err("not a problem".into());
-    };
-    match check(problem) {
-        Ok(c) => Ok(c),
-        Err(_) => Err("refused".into()),
-    }
-}

@@ -7,9 +7,9 @@ ghost use Rattle.slot_contents.specs.Values.{Fits};
 ghost use Rattle.run_task.specs.Jobs.{IsPlanFor};
 
 use crate::old_numbers;
-use crate::problems::checked;
 use field_box::Value;
 use graph_compiler::{Plan, compile, kind_of, plans_are_valid};
+use graph_tests::checked;
 use graph_types::NoMemory;
 use run_task::StepJob;
 use serial_step::run_serially;

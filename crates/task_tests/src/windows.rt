@@ -1,6 +1,7 @@
 //! What detailed tasks see of variables, along x.
-use crate::problems::{WINDOWS, checked};
+use crate::problems::WINDOWS;
 use crate::runs::step_plan;
+use graph_tests::checked;
 use graph_types::NoMemory;
 use kernel_eval::Part;
 use run_task::{StepJob, Work};

@@ -34,7 +34,7 @@ pub fn quiet_top<R: Source, O: Sink, E: Sink>(
     ensures done { result ≡ 0 → IfSome (R.left source.old) (λ text. (bytes : List ℕ) × Answers words.now text 0 bytes
         × (O.taken out.new ≡ grown O.after (O.taken out.old) bytes)) }
 
-    // Done only where no fault came.
+    // Done only where no stream's count of faults rose.
     ensures calm { result ≡ 0 → (R.faults source.new ≡ R.faults source.old) × (O.faults out.new ≡ O.faults out.old)
         × (E.faults err.new ≡ E.faults err.old) }
 
