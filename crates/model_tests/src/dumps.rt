@@ -1,14 +1,11 @@
 //! The dump of a small problem, written by hand.
-ghost use Rattle.std.specs.Prelude.{◌≡◌, ◌∷◌, ◌++◌, [], ◌+ℤ◌, ◌≤◌, pos, negsuc, min, replicate, Some, IsTrue, IfOk, OnOk, slice_index_or};
-ghost use Rattle.std.specs.Int.{int_gap};
-ghost use Rattle.std.proofs.Common.{arith, lit≤};
-ghost use Rattle.std.proofs.lemmas.List.{length-replicate};
-ghost use Rattle.std.proofs.lemmas.List.Elements.{All-replicate};
+ghost use Rattle.std.specs.Prelude.{◌≡◌, ◌∷◌, ◌++◌, [], ◌≤◌, pos, negsuc, Some, IsTrue, OnOk};
 ghost use Rattle.problem_types.specs.Lists.{is_dumped};
 
 use crate::drafts::{Draft, FIRST, LOW, U, new_draft};
+use crate::marks::Marks;
 use dump_text::{NoMemory, Rows, RunFault, dump_begin, dump_end, dump_step};
-use probes::{Probe, Row};
+use probes::Probe;
 use problem_lookup::is_dumped;
 use problem_types::{Centring, Expr, Fold, NoMemory as NoProblem};
 use std::alloc::Global;
@@ -72,45 +69,6 @@ impl Rows for Places {
     fn number(&self, _name: u32) -> i64 {
         -7
     }
-}
-
-/// A count of rows that has no memory for more than `most` of them.
-#[derive(Drop)]
-struct Marks {
-    rows: u8,
-    most: u8,
-}
-
-/// So many signs, at most 200.
-fn signs(alloc: Global, count: u8) -> Result<Vec<u8>, NoMemory>
-    ensures { IfOk result (λ signs. signs.items ≡ replicate (min count 200) 35) }
-{
-    match vec![in alloc; b'#'; count.min(200) as usize] {
-        Ok(signs) => Ok(signs),
-        Err(_) => Err(NoMemory),
-    }
-}
-
-impl Probe for Marks {
-    ghost state = { λ m. pos m.rows ∷ [] };
-
-    ghost next = { λ _ s row. (slice_index_or s 0 (pos 0) +ℤ pos 1) ∷ [] };
-
-    ghost text = { λ _ s. replicate (min (int_gap (pos 0) (slice_index_or s 0 (pos 0))) 200) 35 };
-
-    fn note(&mut self, _row: &Row) -> Result<(), NoMemory> {
-        if self.rows >= self.most {
-            return Err(NoMemory);
-        }
-        self.rows += 1;
-        Ok(())
-    }
-
-    fn line(&self, alloc: Global) -> Result<Vec<u8>, NoMemory> {
-        signs(alloc, self.rows)
-    }
-
-    ghost short = { λ p s. (Prim.rw length-replicate (Prim.omega arith), All-replicate (λ b. (0x20 ≤ b) × (b ≤ 0x7E)) _ 35 (lit≤ tt, lit≤ tt)) };
 }
 
 /// Adds a probe that has memory for so many rows.

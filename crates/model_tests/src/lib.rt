@@ -9,6 +9,8 @@ mod dumps;
 #[cfg(test)]
 mod fields;
 #[cfg(test)]
+mod marks;
+#[cfg(test)]
 mod runs;
 #[cfg(test)]
 mod witness;
