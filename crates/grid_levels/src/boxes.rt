@@ -8,11 +8,12 @@ use crate::spans::lies_in;
 use problem_types::BoxLine;
 use uts_geom::{Index, Span};
 
-/// The span of a box, its bounds divided by the ratio.
-pub(crate) fn divided(b: BoxLine, ratio: u64) -> Span
+/// The cells of a box, its bounds divided by a ratio, rounded down.
+pub fn divided(b: BoxLine, ratio: u64) -> Span
     requires near { HasNearBounds b }
     requires some { 0 < ratio }
-    ensures { result ≡ divided ratio (cells_of b) }
+    ensures divided { result ≡ divided ratio (cells_of b) }
+    ensures near { IsNearSpan result }
 {
     Span {
         lo: Index {

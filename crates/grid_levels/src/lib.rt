@@ -9,5 +9,6 @@ mod multiples;
 mod spans;
 mod tiling;
 
+pub use boxes::divided;
 pub use level::{BadGrid, check_level};
 pub use limits::{has_near_bounds, is_within_limits, keeps_limits};

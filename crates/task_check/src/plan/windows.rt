@@ -10,7 +10,6 @@ ghost use Rattle.problem_types.specs.Lists.{centring_of};
 ghost use Rattle.problem_types.specs.Regions.{ratio_of};
 ghost use Rattle.problem_types.specs.declared.problem.Level.{Level};
 ghost use Rattle.problem_types.specs.declared.problem.Task.{Task};
-ghost use Rattle.grid_levels.specs.Good.{divided};
 ghost use Rattle.patch_regions.specs.Regions.{do_meet, patch_at};
 ghost use Rattle.task_rules.specs.Lines.{wanted_level};
 ghost use Rattle.ghost_rules.specs.Windows.{AreFewSeen};
@@ -23,6 +22,7 @@ ghost use Rattle.task_check.specs.Supplies.{seen_by_kind, seen_of};
 use crate::plan::reach::Reach;
 use crate::supplies::seen_of;
 use ghost_rules::{Seen, window};
+use grid_levels::divided;
 use patch_regions::{index_space, owned, patch_box, patch_line, spans_meet_in_indexes};
 use problem_lookup::centring_of;
 use problem_types::{
@@ -60,27 +60,6 @@ pub(crate) fn ratio_of(p: &Problem, level: u64) -> u64
         .as_slice()
         .get(level as usize)
         .map_or(1, |l| l.ratio)
-}
-
-/// The cells of a box, its bounds divided by a ratio.
-fn divided(b: BoxLine, ratio: u64) -> Span
-    requires near { HasNearBounds b }
-    requires some { 0 < ratio }
-    ensures divided { result ≡ divided ratio (cells_of b) }
-    ensures near { IsNearSpan result }
-{
-    Span {
-        lo: Index {
-            x: (b.lo[0] / ratio) as i64,
-            y: (b.lo[1] / ratio) as i64,
-            z: (b.lo[2] / ratio) as i64,
-        },
-        hi: Index {
-            x: (b.hi[0] / ratio) as i64,
-            y: (b.hi[1] / ratio) as i64,
-            z: (b.hi[2] / ratio) as i64,
-        },
-    }
 }
 
 /// Where a coordinate lies on a level that is finer by a ratio, and one further where a point there counts besides.
