@@ -48,7 +48,7 @@ fn kernel(alloc: Global) -> Result<Expr, AllocError> {
 
 /// The kernel over `SPAN`, in step, material and level 0.
 fn sweep(kernel: &Expr) -> Sweep<'_>
-    ensures { result.kernel ≡ kernel × result.span ≡ SPAN }
+    ensures { result.kernel.now ≡ kernel.now × result.span ≡ SPAN }
 {
     Sweep {
         kernel,
