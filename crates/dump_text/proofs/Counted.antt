@@ -1,5 +1,5 @@
 -- Lists made from the numbers below a bound.
-use Rattle.std.proofs.Common.{◌≡◌, ◌∙◌, ◌<◌, ◌+◌, ℕ, List, [], ◌∷◌, ◌++◌, All, length, length-append, get_or, ap, sym, subst, arith, append-nil, refl}
+use Rattle.std.proofs.Common.{◌≡◌, ◌∙◌, ◌<◌, ◌+◌, ℕ, List, [], ◌∷◌, ◌++◌, All, length, length-append, get_or, ap, subst, arith, append-nil}
 use Rattle.std.specs.List.{flat_map}
 use Rattle.std.proofs.lemmas.Grind.{flat_map-append}
 use Rattle.std.proofs.lemmas.List.{get_or-append-add, get_or_append_left}
@@ -23,10 +23,3 @@ all_of_one P f k n below all =
     (ap (flat_map f) split.1 ∙ flat_map-append f (counted 0 k ++ k ∷ []) split.0
     ∙ ap (λ t. t ++ flat_map f split.0)
     (flat_map-append f (counted 0 k) (k ∷ []) ∙ ap (λ t. flat_map f (counted 0 k) ++ t) (append-nil (f k)))) all
-
--- lists joined within joined lists
-pub flat_map-flat_map : {X Y Z : Type 0} (f : Y → List Z) (g : X → List Y) (xs : List X) →
-    flat_map (λ x. flat_map f (g x)) xs ≡ flat_map f (flat_map g xs)
-flat_map-flat_map f g [] = refl
-flat_map-flat_map f g (x ∷ xs) =
-    ap (λ t. flat_map f (g x) ++ t) (flat_map-flat_map f g xs) ∙ sym (flat_map-append f (g x) (flat_map g xs))

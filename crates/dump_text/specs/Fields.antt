@@ -1,12 +1,13 @@
--- The fields of a kept name, their rows and their text.
+-- The fields of a kept name, and their lines.
 use Rattle.std.specs.Prelude.{ℕ, ℤ, ◌<◌, List, [], length, map, if◌then◌else◌}
 use Rattle.std.specs.List.{flat_map}
 use Rattle.uts_geom.specs.Spans.{counted}
 use Rattle.problem_types.specs.Lists.{task_list, computes, centring_of}
 use Rattle.problem_types.specs.Regions.{spaces_of}
 use Rattle.probes.specs.declared.row.Row.{Row}
-use Rattle.uts_model.specs.Dump.{Shown, Field, shown_fields, row_shown, field_rows, field_text, keep_rows, keep_text}
+use Rattle.uts_model.specs.Dump.{Shown, Field, shown_fields, row_shown}
 use Rattle.task_check.specs.Bounds.{IsBounded}
+use Rattle.dump_text.specs.Lines.{Line, field_lines, keep_lines}
 use Rattle.dump_text.specs.declared.field.Kept.{Kept}
 use Rattle.dump_text.specs.declared.place.Place.{Place}
 
@@ -23,12 +24,9 @@ field_at place = record { material = place.material; level = place.level; span =
 abbrev pub kept_row : Shown → Kept → Place → ℤ × ℤ → Row
 kept_row shown k place at = row_shown shown k.step k.keep k.name (field_at place) at
 
--- the rows of fields, and their text
-abbrev pub rows_of_fields : Shown → Kept → List Field → List Row
-rows_of_fields shown k fields = flat_map (field_rows shown k.step k.keep k.name) fields
-
-abbrev pub text_of_fields : Shown → Kept → List Field → List ℕ
-text_of_fields shown k fields = flat_map (field_text k.problem.now shown k.step k.keep k.name) fields
+-- the lines of fields
+abbrev pub lines_of_fields : Shown → Kept → List Field → List Line
+lines_of_fields shown k fields = flat_map (field_lines k.problem.now shown k.step k.keep k.name) fields
 
 -- the fields on a material and a level, on a material, and everywhere
 abbrev pub level_fields : Kept → (material level : ℕ) → List Field
@@ -43,9 +41,6 @@ material_fields k material = flat_map (level_fields k material) (counted 0 (leng
 abbrev pub all_fields : Kept → List Field
 all_fields k = shown_fields k.problem.now k.step k.name
 
--- the rows and the text of a kept name
-abbrev pub kept_rows : Shown → Kept → List Row
-kept_rows shown k = keep_rows k.problem.now shown k.step k.keep k.name
-
-abbrev pub kept_text : Shown → Kept → List ℕ
-kept_text shown k = keep_text k.problem.now shown k.step k.keep k.name
+-- the lines of a kept name
+abbrev pub kept_lines : Shown → Kept → List Line
+kept_lines shown k = keep_lines k.problem.now shown k.step k.keep k.name

@@ -1,12 +1,10 @@
 -- What a supplier of rows and numbers has to have, and what the dump shows of it.
-use Rattle.std.specs.Prelude.{◌≡◌, ℕ, ℤ, pos, List, [], ◌++◌, Option, IsSome, All, IsTrue, IsFalse}
+use Rattle.std.specs.Prelude.{ℕ, ℤ, pos, List, [], Option, IsSome, All, IsTrue, IsFalse}
 use Rattle.std.specs.Option.{unwrap_or, is_some}
 use Rattle.uts_geom.specs.Spans.{rows_of}
 use Rattle.problem_types.specs.Lists.{variable_named}
 use Rattle.problem_types.specs.declared.problem.Problem.{Problem}
 use Rattle.problem_types.specs.declared.problem.Keep.{Keep}
-use Rattle.probes.specs.declared.row.Row.{Row}
-use Rattle.probes.specs.Watching.{Meaning, after_rows}
 use Rattle.uts_model.specs.Dump.{Shown, Field, shown_fields}
 
 -- what is shown of a supplier that has these rows, by name, material, level, y and z, and these numbers, by name
@@ -27,10 +25,3 @@ pub record HasKept (p : Problem) (step : ℕ) (rows : ℕ → ℕ → ℕ → �
 
 abbrev pub HasAllKept : Problem → (step : ℕ) → (ℕ → ℕ → ℕ → ℤ → ℤ → Option (List ℤ)) → (ℕ → Option ℤ) → Type 0
 HasAllKept p step rows numbers = All (HasKept p step rows numbers) p.keeps
-
--- a probe has seen the first of these rows, perhaps not all of them
-pub record HasSeenSome (rows : List Row) (old new : Meaning) : Type 0 where
-  pub front : List Row
-  pub rest : List Row
-  pub splits : rows ≡ front ++ rest
-  pub seen : new ≡ after_rows front old

@@ -1,5 +1,5 @@
 -- Calls that write to one sink, alone and in turn.
-use Rattle.std.proofs.Common.{◌≡◌, ◌∙◌, ℕ, List, [], ◌++◌, Option, Result, Ok, Err, ap, refl, sym, subst, arith, append-nil, ◌∷◌}
+use Rattle.std.proofs.Common.{◌≡◌, ◌∙◌, ℕ, List, [], ◌++◌, Option, Result, Ok, Err, ap, refl, sym, arith, append-nil, ◌∷◌}
 use Rattle.std.specs.List.{flat_map}
 use Rattle.std.proofs.lemmas.Grind.{flat_map-append}
 use Rattle.std.proofs.lemmas.Result.{on_ok_weaker}
@@ -30,11 +30,6 @@ module _ (after : List ℕ → List ℕ → List ℕ) (old new : Option (List �
     fault = λ h. let same : e ≡ SinkFault = cc in w.fault (was ∙ ap Err same);
     never_falls = w.never_falls;
   }
-
-  -- a failure that is handed on
-  pub writes_alike : {T U : Type 0} (e : RunFault) (r : Result T RunFault) (r' : Result U RunFault) (text : List ℕ) →
-      r ≡ Err e → r' ≡ Err e → Writes after old new before now r text → Writes after old new before now r' text
-  writes_alike e r r' text was is w = subst (Writes after old new before now r') (append-nil text) (writes_less e r r' text [] was is w)
 
 -- a call that failed for want of memory before it wrote
 pub nothing_written : (after : List ℕ → List ℕ → List ℕ) (none : NoneChangeNothing after) (old : Option (List ℕ)) (count : ℕ)

@@ -1,10 +1,10 @@
 //! A field of a kept variable: its header, and its rows.
 ghost use Rattle.std.specs.Prelude.{◌≡◌, ◌<◌, ◌∷◌, [], map, length, IfOk, IsSome};
-ghost use Rattle.std.specs.List.{flat_map};
 ghost use Rattle.uts_geom.specs.Spans.{IsNearSpan};
-ghost use Rattle.uts_model.specs.Dump.{field_line, field_rows, field_text, name_text, row_line};
+ghost use Rattle.uts_model.specs.Dump.{field_line, field_rows, name_text, row_line};
 ghost use Rattle.dump_text.specs.Fields.{field_at, kept_row};
-ghost use Rattle.dump_text.specs.Showing.{Sees, Shows};
+ghost use Rattle.dump_text.specs.Lines.{field_lines, line_of};
+ghost use Rattle.dump_text.specs.Showing.{CallShows, Sees};
 ghost use Rattle.dump_text.specs.Supplies.{HasField, shown_by};
 ghost use Rattle.dump_text.specs.Writing.{Writes};
 
@@ -63,8 +63,8 @@ fn show_row<O: Sink>(
     probes: &mut Vec<Box<dyn Probe>>,
 ) -> Result<(), RunFault>
     ensures written { Writes O.after (O.taken sink.old) (O.taken sink.new) (O.faults sink.old) (O.faults sink.new) result (row_line row.now) }
-    ensures seen { Sees (map (λ b. record { state = state b; next = next b; text = text b }) probes.old.items)
-        (map (λ b. record { state = state b; next = next b; text = text b }) probes.new.items) result (row.now ∷ []) }
+    ensures seen { Sees O.after (O.taken sink.old) (O.taken sink.new) (map (λ b. record { state = state b; next = next b; text = text b }) probes.old.items)
+        (map (λ b. record { state = state b; next = next b; text = text b }) probes.new.items) result (line_of row.now ∷ []) }
 {
     put_row_line(line, row)?;
     write_line(sink, line)?;
@@ -84,22 +84,9 @@ fn show_row_at<O: Sink, F: Rows>(
 ) -> Result<(), RunFault>
     requires { IsSome (F.rows fields.old kept.now.name place.material place.level at.0 at.1) }
     ensures { let row = kept_row (shown_by (F.rows fields.old) (F.numbers fields.old)) kept.now place at in
-        Shows O.after
-        (record {
-          taken = O.taken sink.old;
-          faults = O.faults sink.old;
-          rows = F.rows fields.old;
-          numbers = F.numbers fields.old;
-          probes = map (λ b. record { state = state b; next = next b; text = text b }) probes.old.items;
-        })
-        (record {
-          taken = O.taken sink.new;
-          faults = O.faults sink.new;
-          rows = F.rows fields.new;
-          numbers = F.numbers fields.new;
-          probes = map (λ b. record { state = state b; next = next b; text = text b }) probes.new.items;
-        })
-        result (row_line row) (row ∷ []) }
+        CallShows O.after O.taken O.faults F.rows F.numbers sink.old sink.new fields.old fields.new probes.old.items probes.new.items
+        (λ b. record { state = state b; next = next b; text = text b })
+        result (line_of row ∷ []) }
 {
     let row = row_at(kept, place, at, fields, buffers.take_numbers())?;
     show_row(&row, &mut buffers.line, sink, probes)?;
@@ -120,22 +107,9 @@ fn show_rows<O: Sink, F: Rows>(
     requires near { IsNearSpan place.span }
     requires has { HasField (F.rows fields.old) kept.now.name (field_at place) }
     ensures { let rows = field_rows (shown_by (F.rows fields.old) (F.numbers fields.old)) kept.now.step kept.now.keep kept.now.name (field_at place) in
-        Shows O.after
-        (record {
-          taken = O.taken sink.old;
-          faults = O.faults sink.old;
-          rows = F.rows fields.old;
-          numbers = F.numbers fields.old;
-          probes = map (λ b. record { state = state b; next = next b; text = text b }) probes.old.items;
-        })
-        (record {
-          taken = O.taken sink.new;
-          faults = O.faults sink.new;
-          rows = F.rows fields.new;
-          numbers = F.numbers fields.new;
-          probes = map (λ b. record { state = state b; next = next b; text = text b }) probes.new.items;
-        })
-        result (flat_map row_line rows) rows }
+        CallShows O.after O.taken O.faults F.rows F.numbers sink.old sink.new fields.old fields.new probes.old.items probes.new.items
+        (λ b. record { state = state b; next = next b; text = text b })
+        result (map line_of rows) }
 {
     for at in rows(place.span) {
         show_row_at(kept, place, at, buffers, fields, sink, probes)?;
@@ -179,23 +153,9 @@ pub(crate) fn show_field<O: Sink, F: Rows>(
     requires near { IsNearSpan place.span }
     requires has { HasField (F.rows fields.old) kept.now.name (field_at place) }
     ensures { let shown = shown_by (F.rows fields.old) (F.numbers fields.old) in let field = field_at place in
-        Shows O.after
-        (record {
-          taken = O.taken sink.old;
-          faults = O.faults sink.old;
-          rows = F.rows fields.old;
-          numbers = F.numbers fields.old;
-          probes = map (λ b. record { state = state b; next = next b; text = text b }) probes.old.items;
-        })
-        (record {
-          taken = O.taken sink.new;
-          faults = O.faults sink.new;
-          rows = F.rows fields.new;
-          numbers = F.numbers fields.new;
-          probes = map (λ b. record { state = state b; next = next b; text = text b }) probes.new.items;
-        })
-        result (field_text kept.now.problem.now shown kept.now.step kept.now.keep kept.now.name field)
-        (field_rows shown kept.now.step kept.now.keep kept.now.name field) }
+        CallShows O.after O.taken O.faults F.rows F.numbers sink.old sink.new fields.old fields.new probes.old.items probes.new.items
+        (λ b. record { state = state b; next = next b; text = text b })
+        result (field_lines kept.now.problem.now shown kept.now.step kept.now.keep kept.now.name field) }
 {
     write_header(kept, place, &mut buffers.line, sink)?;
     show_rows(kept, place, buffers, fields, sink, probes)

@@ -1,11 +1,11 @@
 //! What stands for a kept name: the fields of a variable, or the number of a reduction.
-ghost use Rattle.std.specs.Prelude.{◌≡◌, ◌<◌, ◌∷◌, [], map, length, All, IsTrue, IsFalse, IsSome, IfSome, MatchOption, Some, slice_get};
+ghost use Rattle.std.specs.Prelude.{◌≡◌, ◌<◌, ◌∷◌, [], length, All, IsTrue, IsFalse, IsSome, IfSome, MatchOption, Some, slice_get};
 ghost use Rattle.std.specs.Option.{is_some};
 ghost use Rattle.uts_geom.specs.Spans.{IsNearSpan};
 ghost use Rattle.problem_types.specs.Lists.{task_list, runs_on, computes, centring_of, variable_named};
 ghost use Rattle.uts_model.specs.Dump.{name_text, number_line};
-ghost use Rattle.dump_text.specs.Fields.{IsKept, all_fields, field_at, kept_rows, kept_text, level_fields, material_fields, rows_of_fields, text_of_fields};
-ghost use Rattle.dump_text.specs.Showing.{Shows};
+ghost use Rattle.dump_text.specs.Fields.{IsKept, all_fields, field_at, kept_lines, level_fields, lines_of_fields, material_fields};
+ghost use Rattle.dump_text.specs.Showing.{CallShows};
 ghost use Rattle.dump_text.specs.Supplies.{HasField, shown_by};
 ghost use Rattle.dump_text.specs.Writing.{Writes};
 
@@ -73,22 +73,9 @@ fn show_level<O: Sink, F: Rows>(
     requires level { level < length kept.now.problem.now.levels }
     requires has { All (HasField (F.rows fields.old) kept.now.name) (level_fields kept.now material level) }
     ensures { let shown = shown_by (F.rows fields.old) (F.numbers fields.old) in let all = level_fields kept.now material level in
-        Shows O.after
-        (record {
-          taken = O.taken sink.old;
-          faults = O.faults sink.old;
-          rows = F.rows fields.old;
-          numbers = F.numbers fields.old;
-          probes = map (λ b. record { state = state b; next = next b; text = text b }) probes.old.items;
-        })
-        (record {
-          taken = O.taken sink.new;
-          faults = O.faults sink.new;
-          rows = F.rows fields.new;
-          numbers = F.numbers fields.new;
-          probes = map (λ b. record { state = state b; next = next b; text = text b }) probes.new.items;
-        })
-        result (text_of_fields shown kept.now all) (rows_of_fields shown kept.now all) }
+        CallShows O.after O.taken O.faults F.rows F.numbers sink.old sink.new fields.old fields.new probes.old.items probes.new.items
+        (λ b. record { state = state b; next = next b; text = text b })
+        result (lines_of_fields shown kept.now all) }
 {
     match place_on(kept, material, level) {
         Some(place) => show_field(kept, place, buffers, fields, sink, probes),
@@ -108,22 +95,9 @@ fn show_material<O: Sink, F: Rows>(
     requires kept { IsKept kept.now }
     requires has { All (HasField (F.rows fields.old) kept.now.name) (material_fields kept.now material) }
     ensures { let shown = shown_by (F.rows fields.old) (F.numbers fields.old) in let all = material_fields kept.now material in
-        Shows O.after
-        (record {
-          taken = O.taken sink.old;
-          faults = O.faults sink.old;
-          rows = F.rows fields.old;
-          numbers = F.numbers fields.old;
-          probes = map (λ b. record { state = state b; next = next b; text = text b }) probes.old.items;
-        })
-        (record {
-          taken = O.taken sink.new;
-          faults = O.faults sink.new;
-          rows = F.rows fields.new;
-          numbers = F.numbers fields.new;
-          probes = map (λ b. record { state = state b; next = next b; text = text b }) probes.new.items;
-        })
-        result (text_of_fields shown kept.now all) (rows_of_fields shown kept.now all) }
+        CallShows O.after O.taken O.faults F.rows F.numbers sink.old sink.new fields.old fields.new probes.old.items probes.new.items
+        (λ b. record { state = state b; next = next b; text = text b })
+        result (lines_of_fields shown kept.now all) }
 {
     for level in 0..kept.problem.levels.len() as u32 {
         show_level(kept, material, level, buffers, fields, sink, probes)?;
@@ -142,22 +116,9 @@ fn show_variable<O: Sink, F: Rows>(
     requires kept { IsKept kept.now }
     requires has { All (HasField (F.rows fields.old) kept.now.name) (all_fields kept.now) }
     ensures { let shown = shown_by (F.rows fields.old) (F.numbers fields.old) in let all = all_fields kept.now in
-        Shows O.after
-        (record {
-          taken = O.taken sink.old;
-          faults = O.faults sink.old;
-          rows = F.rows fields.old;
-          numbers = F.numbers fields.old;
-          probes = map (λ b. record { state = state b; next = next b; text = text b }) probes.old.items;
-        })
-        (record {
-          taken = O.taken sink.new;
-          faults = O.faults sink.new;
-          rows = F.rows fields.new;
-          numbers = F.numbers fields.new;
-          probes = map (λ b. record { state = state b; next = next b; text = text b }) probes.new.items;
-        })
-        result (text_of_fields shown kept.now all) (rows_of_fields shown kept.now all) }
+        CallShows O.after O.taken O.faults F.rows F.numbers sink.old sink.new fields.old fields.new probes.old.items probes.new.items
+        (λ b. record { state = state b; next = next b; text = text b })
+        result (lines_of_fields shown kept.now all) }
 {
     for material in 0..kept.problem.materials.value as u32 {
         show_material(kept, material, buffers, fields, sink, probes)?;
@@ -197,22 +158,9 @@ pub(crate) fn show_keep<O: Sink, F: Rows>(
     requires reduction { IsFalse (is_some (variable_named kept.now.problem.now kept.now.name))
         → IsSome (F.numbers fields.old kept.now.name) }
     ensures { let shown = shown_by (F.rows fields.old) (F.numbers fields.old) in
-        Shows O.after
-        (record {
-          taken = O.taken sink.old;
-          faults = O.faults sink.old;
-          rows = F.rows fields.old;
-          numbers = F.numbers fields.old;
-          probes = map (λ b. record { state = state b; next = next b; text = text b }) probes.old.items;
-        })
-        (record {
-          taken = O.taken sink.new;
-          faults = O.faults sink.new;
-          rows = F.rows fields.new;
-          numbers = F.numbers fields.new;
-          probes = map (λ b. record { state = state b; next = next b; text = text b }) probes.new.items;
-        })
-        result (kept_text shown kept.now) (kept_rows shown kept.now) }
+        CallShows O.after O.taken O.faults F.rows F.numbers sink.old sink.new fields.old fields.new probes.old.items probes.new.items
+        (λ b. record { state = state b; next = next b; text = text b })
+        result (kept_lines shown kept.now) }
 {
     if is_variable(kept.problem, kept.name) {
         show_variable(kept, buffers, fields, sink, probes)

@@ -1,7 +1,7 @@
 //! Probes that note a row.
 ghost use Rattle.std.specs.Prelude.{◌≡◌, ◌∷◌, [], map, OnOk, OnErr};
 ghost use Rattle.probes.specs.Watching.{Meaning, after_rows};
-ghost use Rattle.dump_text.specs.Showing.{Sees};
+ghost use Rattle.dump_text.specs.Showing.{Notes};
 
 use probes::{NoMemory, Probe, Row};
 
@@ -17,8 +17,8 @@ fn note_one(probe: &mut Box<dyn Probe>, row: &Row) -> Result<(), NoMemory>
 
 /// Has each probe note the row, in the order of the list, until one has no memory.
 pub(crate) fn note_all(probes: &mut Vec<Box<dyn Probe>>, row: &Row) -> Result<(), NoMemory>
-    ensures { Sees (map (λ b. record { state = state b; next = next b; text = text b }) probes.old.items)
-        (map (λ b. record { state = state b; next = next b; text = text b }) probes.new.items) result (row.now ∷ []) }
+    ensures { Notes (map (λ b. record { state = state b; next = next b; text = text b }) probes.old.items)
+        (map (λ b. record { state = state b; next = next b; text = text b }) probes.new.items) result row.now }
 {
     for probe in probes.iter_mut() {
         note_one(probe, row)?;

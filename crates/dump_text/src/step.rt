@@ -6,10 +6,11 @@ ghost use Rattle.problem_types.specs.Lists.{is_dumped};
 ghost use Rattle.problem_types.specs.declared.problem.Keep.{Keep};
 ghost use Rattle.task_check.specs.Bounds.{IsBounded};
 ghost use Rattle.probes.specs.Watching.{after_rows};
-ghost use Rattle.uts_model.specs.Dump.{by_keeps, keep_rows, keep_text, step_line, step_rows, step_text};
+ghost use Rattle.uts_model.specs.Dump.{by_keeps, step_line, step_rows, step_text};
 ghost use Rattle.dump_text.specs.Keeps.{at_keep};
-ghost use Rattle.dump_text.specs.Showing.{Shows};
-ghost use Rattle.dump_text.specs.Supplies.{HasAllKept, HasSeenSome, shown_by};
+ghost use Rattle.dump_text.specs.Lines.{keep_lines, step_lines};
+ghost use Rattle.dump_text.specs.Showing.{CallShows, HasSeenSome};
+ghost use Rattle.dump_text.specs.Supplies.{HasAllKept, shown_by};
 ghost use Rattle.dump_text.specs.Writing.{Writes};
 
 use crate::Rows;
@@ -55,22 +56,9 @@ fn show_keep_at<O: Sink, F: Rows>(
     requires place { place < length problem.now.keeps }
     requires has { HasAllKept problem.now step (F.rows fields.old) (F.numbers fields.old) }
     ensures { let shown = shown_by (F.rows fields.old) (F.numbers fields.old) in
-        Shows O.after
-        (record {
-          taken = O.taken sink.old;
-          faults = O.faults sink.old;
-          rows = F.rows fields.old;
-          numbers = F.numbers fields.old;
-          probes = map (λ b. record { state = state b; next = next b; text = text b }) probes.old.items;
-        })
-        (record {
-          taken = O.taken sink.new;
-          faults = O.faults sink.new;
-          rows = F.rows fields.new;
-          numbers = F.numbers fields.new;
-          probes = map (λ b. record { state = state b; next = next b; text = text b }) probes.new.items;
-        })
-        result (at_keep problem.now (keep_text problem.now shown step) place) (at_keep problem.now (keep_rows problem.now shown step) place) }
+        CallShows O.after O.taken O.faults F.rows F.numbers sink.old sink.new fields.old fields.new probes.old.items probes.new.items
+        (λ b. record { state = state b; next = next b; text = text b })
+        result (at_keep problem.now (keep_lines problem.now shown step) place) }
 {
     let name = kept_name(problem, place);
     let kept = Kept {
@@ -95,22 +83,9 @@ fn show_keeps<O: Sink, F: Rows>(
     requires bounded { IsBounded problem.now }
     requires has { HasAllKept problem.now step (F.rows fields.old) (F.numbers fields.old) }
     ensures { let shown = shown_by (F.rows fields.old) (F.numbers fields.old) in
-        Shows O.after
-        (record {
-          taken = O.taken sink.old;
-          faults = O.faults sink.old;
-          rows = F.rows fields.old;
-          numbers = F.numbers fields.old;
-          probes = map (λ b. record { state = state b; next = next b; text = text b }) probes.old.items;
-        })
-        (record {
-          taken = O.taken sink.new;
-          faults = O.faults sink.new;
-          rows = F.rows fields.new;
-          numbers = F.numbers fields.new;
-          probes = map (λ b. record { state = state b; next = next b; text = text b }) probes.new.items;
-        })
-        result (by_keeps problem.now (keep_text problem.now shown step)) (by_keeps problem.now (keep_rows problem.now shown step)) }
+        CallShows O.after O.taken O.faults F.rows F.numbers sink.old sink.new fields.old fields.new probes.old.items probes.new.items
+        (λ b. record { state = state b; next = next b; text = text b })
+        result (by_keeps problem.now (keep_lines problem.now shown step)) }
 {
     for place in 0..problem.keeps.len() as u32 {
         show_keep_at(problem, step, place, buffers, fields, sink, probes)?;
@@ -131,22 +106,9 @@ fn show_step<O: Sink, F: Rows>(
     requires bounded { IsBounded problem.now }
     requires has { HasAllKept problem.now step (F.rows fields.old) (F.numbers fields.old) }
     ensures { let shown = shown_by (F.rows fields.old) (F.numbers fields.old) in
-        Shows O.after
-        (record {
-          taken = O.taken sink.old;
-          faults = O.faults sink.old;
-          rows = F.rows fields.old;
-          numbers = F.numbers fields.old;
-          probes = map (λ b. record { state = state b; next = next b; text = text b }) probes.old.items;
-        })
-        (record {
-          taken = O.taken sink.new;
-          faults = O.faults sink.new;
-          rows = F.rows fields.new;
-          numbers = F.numbers fields.new;
-          probes = map (λ b. record { state = state b; next = next b; text = text b }) probes.new.items;
-        })
-        result (step_text problem.now shown step) (step_rows problem.now shown step) }
+        CallShows O.after O.taken O.faults F.rows F.numbers sink.old sink.new fields.old fields.new probes.old.items probes.new.items
+        (λ b. record { state = state b; next = next b; text = text b })
+        result (step_lines problem.now shown step) }
 {
     write_step_line(step, &mut buffers.line, sink)?;
     show_keeps(problem, step, buffers, fields, sink, probes)
@@ -154,7 +116,7 @@ fn show_step<O: Sink, F: Rows>(
 
 /// Writes the part of the dump that shows a step, with the rows and the numbers that `fields` has. Each row is written, and
 /// then noted by each probe in the order of the list. After an error the sink has taken a prefix of these bytes, and each
-/// probe has noted a front of the rows; the row that was written last may not be noted yet.
+/// probe has noted the rows of the first lines: of all that the sink has taken, but perhaps for the last one.
 pub fn dump_step<O: Sink, F: Rows>(
     alloc: Global,
     sink: &mut O,
@@ -171,7 +133,8 @@ pub fn dump_step<O: Sink, F: Rows>(
     ensures all_noted { OnOk result (map (λ b. record { state = state b; next = next b; text = text b }) probes.new.items
         ≡ map (λ b. after_rows (step_rows c.now (shown_by (F.rows fields.old) (F.numbers fields.old)) step)
         (record { state = state b; next = next b; text = text b })) probes.old.items) }
-    ensures some_noted { AllZip (HasSeenSome (step_rows c.now (shown_by (F.rows fields.old) (F.numbers fields.old)) step))
+    ensures some_noted { AllZip (HasSeenSome O.after (O.taken sink.old) (O.taken sink.new)
+        (step_lines c.now (shown_by (F.rows fields.old) (F.numbers fields.old)) step))
         (map (λ b. record { state = state b; next = next b; text = text b }) probes.old.items)
         (map (λ b. record { state = state b; next = next b; text = text b }) probes.new.items) }
     ensures same_count { vec_len probes.new ≡ vec_len probes.old }

@@ -3,10 +3,10 @@ use Rattle.std.specs.Prelude.{IsSome}
 use Rattle.std.proofs.lemmas.Result.{err_from_is_err_and}
 use Rattle.uts_geom.specs.Rows.{rows_left}
 use Rattle.uts_geom.specs.Spans.{rows_of}
-use Rattle.probes.specs.declared.row.Row.{Row}
-use Rattle.uts_model.specs.Dump.{Shown, row_line}
+use Rattle.uts_model.specs.Dump.{Shown}
+use Rattle.dump_text.specs.Lines.{Line, line_of}
 use Rattle.dump_text.specs.Fields.{kept_row}
-use Rattle.dump_text.proofs.FieldRows.{all_at, text_by_rows, rows_by_rows}
+use Rattle.dump_text.proofs.FieldRows.{all_at, lines_by_rows}
 use Rattle.dump_text.proofs.Shown.{shows_none, shows_next, stopped_at}
 use Rattle.dump_text.proofs.field.show_rows.Goals as goal
 
@@ -28,13 +28,12 @@ show_row_at-requires g c =
 
 pub loop-at-preserved : goal.loop-at-preserved
 loop-at-preserved g c =
-    let text : Shown → ℤ × ℤ → List ℕ = λ s at. row_line (kept_row s c.args.kept.now c.args.place at) in
-    let rows : Shown → ℤ × ℤ → List Row = λ s at. kept_row s c.args.kept.now c.args.place at ∷ [] in
+    let lines : Shown → ℤ × ℤ → List Line = λ s at. line_of (kept_row s c.args.kept.now c.args.place at) ∷ [] in
     let done = c.loop-at.yielded in
     record {
       split = append_assoc done (c.in-Some.at ∷ []) (rows_left c.next.new.self)
           ∙ ap (λ t. done ++ t) (sym c.in-Some.ensures.steps) ∙ c.loop-at.invariant.split;
-      shows = shows_next g.O.Sink.after g.met.O.Sink.after_both _ _ _ _ text rows done c.in-Some.at tt c.loop-at.invariant.shows
+      shows = shows_next g.O.Sink.after g.met.O.Sink.after_both _ _ _ _ lines done c.in-Some.at tt c.loop-at.invariant.shows
           c.in_ok-show_row_at.ensures;
     }
 
@@ -43,14 +42,13 @@ returns-in_err-show_row_at g c =
     let p = err_from_is_err_and c.from_residual.result c.from_residual.ensures.1 in
     let kept = c.args.kept.now in
     let place = c.args.place in
-    let text : Shown → ℤ × ℤ → List ℕ = λ s at. row_line (kept_row s kept place at) in
-    let rows : Shown → ℤ × ℤ → List Row = λ s at. kept_row s kept place at ∷ [] in
+    let lines : Shown → ℤ × ℤ → List Line = λ s at. line_of (kept_row s kept place at) ∷ [] in
     let done = c.loop-at.yielded in
     let rest = rows_left c.next.new.self in
     let whole : rows_of place.span ≡ (done ++ c.in-Some.at ∷ []) ++ rest =
     sym c.loop-at.invariant.split ∙ ap (λ t. done ++ t) c.in-Some.ensures.steps ∙ sym (append_assoc done (c.in-Some.at ∷ []) rest) in
-    rw (← text_by_rows _ kept place, ← rows_by_rows _ kept place)
-    (stopped_at g.O.Sink.after g.met.O.Sink.after_both _ _ _ _ text rows done c.in-Some.at tt c.loop-at.invariant.shows c.in_err-show_row_at.ensures
+    rw (← lines_by_rows _ kept place)
+    (stopped_at g.O.Sink.after g.met.O.Sink.after_both _ _ _ _ lines done c.in-Some.at tt c.loop-at.invariant.shows c.in_err-show_row_at.ensures
     c.in_err-show_row_at.field-0.0 _ (rows_of place.span) rest whole refl (p.1 ∙ ap Err p.2))
 
 pub returns : goal.returns
@@ -58,5 +56,4 @@ returns g c =
     let done = c.loop-at.yielded in
     let all : done ≡ rows_of c.args.place.span =
     sym (append-nil done) ∙ ap (λ t. done ++ t) (sym c.in-None.ensures.steps.0) ∙ c.loop-at.invariant.split in
-    rw (← text_by_rows _ c.args.kept.now c.args.place, ← rows_by_rows _ c.args.kept.now c.args.place)
-    (rw all at c.loop-at.invariant.shows)
+    rw (← lines_by_rows _ c.args.kept.now c.args.place) (rw all at c.loop-at.invariant.shows)

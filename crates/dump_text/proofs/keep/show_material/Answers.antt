@@ -1,11 +1,11 @@
 use Rattle.std.proofs.Common.{◌∙◌, ℕ, ℤ, List, Option, Err, All, length, refl, ap, sym, subst, arith}
 use Rattle.std.proofs.lemmas.Result.{err_from_is_err_and}
-use Rattle.probes.specs.declared.row.Row.{Row}
 use Rattle.uts_model.specs.Dump.{Shown}
-use Rattle.dump_text.specs.Fields.{level_fields, rows_of_fields, text_of_fields}
+use Rattle.dump_text.specs.Fields.{level_fields, lines_of_fields}
+use Rattle.dump_text.specs.Lines.{Line}
 use Rattle.dump_text.specs.Supplies.{HasField}
 use Rattle.dump_text.proofs.Counted.{all_of_one}
-use Rattle.dump_text.proofs.FieldRows.{rows_by_parts, text_by_parts}
+use Rattle.dump_text.proofs.FieldRows.{lines_by_parts}
 use Rattle.dump_text.proofs.Shown.{shows_none, shows_below, stopped_below, shows_all_below}
 use Rattle.dump_text.proofs.keep.show_material.Goals as goal
 
@@ -24,10 +24,9 @@ show_level-requires-clause-has g c =
 pub loop-level-preserved : goal.loop-level-preserved
 loop-level-preserved g c =
     let kept = c.args.kept.now in
-    let text : Shown → ℕ → List ℕ = λ s level. text_of_fields s kept (level_fields kept c.args.material level) in
-    let rows : Shown → ℕ → List Row = λ s level. rows_of_fields s kept (level_fields kept c.args.material level) in
+    let lines : Shown → ℕ → List Line = λ s level. lines_of_fields s kept (level_fields kept c.args.material level) in
     record {
-      shows = shows_below g.O.Sink.after g.met.O.Sink.after_both _ _ _ tt _ text rows c.loop-level.level c.loop-level.invariant.shows
+      shows = shows_below g.O.Sink.after g.met.O.Sink.after_both _ _ _ tt _ lines c.loop-level.level c.loop-level.invariant.shows
           c.in_ok-show_level.ensures;
     }
 
@@ -36,15 +35,14 @@ returns-in_err-show_level g c =
     let p = err_from_is_err_and c.from_residual.result c.from_residual.ensures.1 in
     let kept = c.args.kept.now in
     let levels = length kept.problem.now.levels in
-    let text : Shown → ℕ → List ℕ = λ s level. text_of_fields s kept (level_fields kept c.args.material level) in
-    let rows : Shown → ℕ → List Row = λ s level. rows_of_fields s kept (level_fields kept c.args.material level) in
-    rw (← text_by_parts _ kept levels (level_fields kept c.args.material), ← rows_by_parts _ kept levels (level_fields kept c.args.material))
-    (stopped_below g.O.Sink.after g.met.O.Sink.after_both _ _ _ tt _ text rows c.loop-level.level c.loop-level.invariant.shows
+    let lines : Shown → ℕ → List Line = λ s level. lines_of_fields s kept (level_fields kept c.args.material level) in
+    rw (← lines_by_parts _ kept levels (level_fields kept c.args.material))
+    (stopped_below g.O.Sink.after g.met.O.Sink.after_both _ _ _ tt _ lines c.loop-level.level c.loop-level.invariant.shows
     c.in_err-show_level.ensures levels c.in_err-show_level.field-0.0 _ (omega arith) refl (p.1 ∙ ap Err p.2))
 
 pub returns : goal.returns
 returns g c =
     let kept = c.args.kept.now in
     let levels = length kept.problem.now.levels in
-    rw (← text_by_parts _ kept levels (level_fields kept c.args.material), ← rows_by_parts _ kept levels (level_fields kept c.args.material))
-    (shows_all_below _ _ c.loop-level.level levels (omega arith) c.loop-level.invariant.shows)
+    rw (← lines_by_parts _ kept levels (level_fields kept c.args.material))
+    (shows_all_below _ c.loop-level.level levels (omega arith) c.loop-level.invariant.shows)

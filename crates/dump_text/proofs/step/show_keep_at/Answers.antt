@@ -2,7 +2,8 @@ use Rattle.std.proofs.Common.{◌<◌, All, IsTrue, IsFalse, length, sym, subst}
 use Rattle.std.specs.Prelude.{IsSome}
 use Rattle.std.specs.Option.{is_some}
 use Rattle.problem_types.specs.Lists.{variable_named}
-use Rattle.uts_model.specs.Dump.{keep_rows, keep_text, shown_fields}
+use Rattle.uts_model.specs.Dump.{shown_fields}
+use Rattle.dump_text.specs.Lines.{keep_lines}
 use Rattle.dump_text.specs.Supplies.{HasField, HasKept, shown_by}
 use Rattle.dump_text.proofs.KeptNames.{all_kept, kept_here}
 use Rattle.dump_text.proofs.step.show_keep_at.Goals as goal
@@ -37,8 +38,4 @@ returns g c =
     let p = c.args.problem.now in
     let shown = shown_by (g.F.Rows.rows c.args.fields.now) (g.F.Rows.numbers c.args.fields.now) in
     let (keep, at, is) = c.kept_name-name.ensures in
-    rw (
-      ← kept_here p (keep_text p shown c.args.step) c.args.place c.kept_name-name.result keep at is,
-      ← kept_here p (keep_rows p shown c.args.step) c.args.place c.kept_name-name.result keep at is,
-    )
-    c.show_keep.ensures
+    rw (← kept_here p (keep_lines p shown c.args.step) c.args.place c.kept_name-name.result keep at is) c.show_keep.ensures
