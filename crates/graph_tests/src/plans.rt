@@ -4,6 +4,7 @@ use graph_compiler::{Detail, ListKind, Plan, StepKind, compile, kind_of};
 use sqlite_items::Items;
 use std::alloc::Global;
 use std::test::Fail;
+use task_check::Checked;
 
 /// `u` in two patches, computed, and then from itself by one layer of ghost cells.
 const TWO_PATCHES: &str =
