@@ -1,7 +1,6 @@
 //! Which fault of several is told, on which line. Lines are counted by hand.
-use crate::refusals_tests::is_refused;
-use crate::tests::{CALM, TWO_PATCHES, call};
-use std::alloc::Global;
+use crate::drafts_tests::{is_accepted, is_refused};
+use crate::tests::TWO_PATCHES;
 use std::test::Fail;
 
 const NODES: &str =
@@ -17,15 +16,6 @@ const REFINED: &str =
 const BOTH_STORES: &str =
     "task again levels 0 materials 0\nrequires old u cells 1\nrequires new u none\nmodifies u = new.u[0,0,0] + old.u[1,0,0]\nkeep u\n";
 
-fn is_accepted(alloc: Global, text: &str) -> Result<bool, Fail> {
-    let answer = call(alloc, "check", text.as_bytes(), &CALM)?;
-    Ok(
-        answer.status == 0
-            && answer.out.as_slice() == b"accepted\n".as_slice()
-            && answer.err.len() == 0,
-    )
-}
-
 #[test]
 fn texts_without_faults_are_accepted(rt: HostRuntime) -> Result<(), Fail> {
     let alloc = rt.alloc();
@@ -33,7 +23,6 @@ fn texts_without_faults_are_accepted(rt: HostRuntime) -> Result<(), Fail> {
         assert!(rt; is_accepted(alloc, text)?);
     }
     for (old, new) in [
-        ("steps 2", "steps 65535"),
         ("keep u\n", BOTH_STORES),
         (
             "patch 2 0 0 4 1 1\n",

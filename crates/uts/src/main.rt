@@ -3,11 +3,15 @@
 
 mod command;
 #[cfg(test)]
+mod drafts_tests;
+#[cfg(test)]
 mod dumps_tests;
 mod failure;
 #[cfg(test)]
 mod faults_tests;
 mod laws;
+#[cfg(test)]
+mod limits_tests;
 mod listing;
 #[cfg(test)]
 mod listing_tests;
