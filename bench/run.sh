@@ -2,10 +2,10 @@
 # Times `uts plain` beside two plain Rust programs that do the same work, in one run on one machine, the dumps thrown away: one walks
 # the same expression trees index by index over whole fields (yardstick.rs), one has the kernels compiled in (compiled.rs). The
 # problems are a diffusion on 64 x 64 x 64 cells with seven reads a cell and 50 steps, and one of two levels, two materials and a
-# reduction. Prints the best of three times of each, their ratios and the most memory that each took, and how long texts of about a
-# million bytes take: one of many tasks, which is read whole and refused for its first fault (and printed, where the program reprint
-# is built), and one that is no problem, which is refused. Before that it compares what all three write, on both problems, and on
-# the examples. Needs rustc.
+# reduction, whose runs are so short that a mean of twenty is taken. Prints the rows of the README's table: the best of three times of
+# each, and the most memory that it took. Then it says how long texts of about a million bytes take: one of many tasks, which is read
+# whole and refused for its first fault (and printed, where the program reprint is built), and one that is no problem, which is
+# refused. Before all this it compares what all three write, on both problems, and on the examples. Needs rustc.
 set -eu
 
 top=$(dirname -- "$(dirname -- "$(readlink -f -- "${BASH_SOURCE[0]}")")")
@@ -113,31 +113,44 @@ same "$room/small" "$compiled" diffusion 6 8
 same "$room/levels" "$compiled" two_levels
 echo "the dumps of small problems and of the examples are equal"
 
-# A title, a text, and the words of the compiled program.
-beside() {
-    local name
-    for name in uts yardstick compiled; do : >"$room/$name.seconds"; done
-    for _ in 1 2 3; do
-        seconds "$2" "$yardstick" >>"$room/yardstick.seconds"
-        seconds "$2" "$compiled" "${@:3}" >>"$room/compiled.seconds"
-        seconds "$2" "$program" plain >>"$room/uts.seconds"
-    done
-    local ours walked built
-    ours=$(least "$room/uts.seconds")
-    walked=$(least "$room/yardstick.seconds")
-    built=$(least "$room/compiled.seconds")
-    echo "$1, best of three:"
-    echo "  uts plain  $ours s"
-    echo "  yardstick  $walked s, index by index"
-    echo "  yardstick  $built s, compiled in"
-    awk -v a="$ours" -v b="$walked" -v c="$built" 'BEGIN { printf "  ratios     %.2f and %.2f\n", a / b, a / c }'
-    if [ -x /usr/bin/time ]; then
-        echo "  most memory: $(memory "$2" "$program" plain), $(memory "$2" "$yardstick") and $(memory "$2" "$compiled" "${@:3}") KiB"
-    fi
+# The seconds of one run of a command that reads the given file: the mean of so many in turn.
+mean() {
+    local runs=$1 text=$2 run TIMEFORMAT=%R
+    shift 2
+    { time for ((run = 0; run < runs; run++)); do "$@" <"$text" >/dev/null; done; } 2>&1 | awk -v runs="$runs" '{ printf "%.4f\n", $1 / runs }'
 }
 
-beside "64 x 64 x 64 cells, seven reads, 50 steps" "$room/large" diffusion 50 64
-beside "two levels, two materials, ten steps" "$room/levels" two_levels
+# A cell of the table: the least of three means, and the most memory in MB where that can be told.
+cell() {
+    printf ' %s s' "$(least "$1")"
+    if [ -x /usr/bin/time ]; then memory "${@:2}" | awk '{ printf ", %.1f MB", $1 * 1024 / 1000000 }'; fi
+    printf ' |'
+}
+
+# A row of the table in the README, and the ratios of its times: a title, how many runs a mean is of, a text, and the words of the
+# compiled program.
+beside() {
+    local title=$1 runs=$2 text=$3 name
+    shift 3
+    for name in uts yardstick compiled; do : >"$room/$name.seconds"; done
+    for _ in 1 2 3; do
+        mean "$runs" "$text" "$yardstick" >>"$room/yardstick.seconds"
+        mean "$runs" "$text" "$compiled" "$@" >>"$room/compiled.seconds"
+        mean "$runs" "$text" "$program" plain >>"$room/uts.seconds"
+    done
+    printf '| %s: best of three means of %s |' "$title" "$runs"
+    cell "$room/uts.seconds" "$text" "$program" plain
+    cell "$room/yardstick.seconds" "$text" "$yardstick"
+    cell "$room/compiled.seconds" "$text" "$compiled" "$@"
+    echo
+    awk -v ours="$(least "$room/uts.seconds")" -v walked="$(least "$room/yardstick.seconds")" -v built="$(least "$room/compiled.seconds")" \
+        'BEGIN { printf "  uts plain takes %.2f times as long as index by index, and %.2f times as long as compiled in\n", ours / walked, ours / built }'
+}
+
+echo '| Problem | `uts plain` | index by index | compiled in |'
+echo '|---|---|---|---|'
+beside "diffusion, 64 x 64 x 64 cells, seven reads, 50 steps, all dumped" 1 "$room/large" diffusion 50 64
+beside "two levels of 8,192 and 4,096 cells, two materials, ten steps, three dumped" 20 "$room/levels" two_levels
 
 # The time and the most memory of a text that is answered with status 1, and what was said of it.
 answered() {
