@@ -64,27 +64,25 @@ fn problem(
     )
 }
 
-/// A box of 1,024 cells in a row, each of them a patch.
-pub fn row_of_patches(alloc: Global) -> Result<String, AllocError> {
-    let mut grid = String::from_str(alloc, "box 0 0 0 1024 1 1\n")?;
-    for x in 0..1024u32 {
-        let high = x + 1;
-        let patch = format!(in alloc; "patch {x} 0 0 {high} 1 1\n")?;
-        grid.push_str(patch.as_str())?;
-    }
-    Ok(grid)
-}
-
-/// A box of so many times 8 times 8 cells, each of them a patch.
-fn block_of_patches(alloc: Global, width: u32) -> Result<String, AllocError> {
-    let mut grid = format!(in alloc; "box 0 0 0 {width} 8 8\n")?;
-    for place in 0..width * 64 {
-        let (x, y, z) = (place % width, place / width % 8, place / width / 8);
+/// A box of so many cells along x, y and z, each of them a patch.
+fn block_of_patches(alloc: Global, [width, depth, height]: [u32; 3]) -> Result<String, AllocError> {
+    let mut grid = format!(in alloc; "box 0 0 0 {width} {depth} {height}\n")?;
+    for place in 0..width * depth * height {
+        let (x, y, z) = (
+            place % width,
+            place / width % depth,
+            place / (width * depth),
+        );
         let (high_x, high_y, high_z) = (x + 1, y + 1, z + 1);
         let patch = format!(in alloc; "patch {x} {y} {z} {high_x} {high_y} {high_z}\n")?;
         grid.push_str(patch.as_str())?;
     }
     Ok(grid)
+}
+
+/// A box of 1,024 cells in a row, each of them a patch.
+pub fn row_of_patches(alloc: Global) -> Result<String, AllocError> {
+    block_of_patches(alloc, [1024, 1, 1])
 }
 
 /// The problem of two patches, whose second task has so many lines besides the two that it has.
@@ -97,12 +95,21 @@ pub fn many_lines(alloc: Global, more: u32) -> Result<String, AllocError> {
     text.as_str().replace(alloc, "keep u\n", written.as_str())
 }
 
-/// A row of patches, one task that computes a variable on each material, and so many that modify it: 8,192 detailed tasks each.
-pub fn many_detailed(alloc: Global, modifying: u32) -> Result<String, AllocError> {
+/// The text with a finer level of one patch, and these tasks behind those of its init list.
+pub fn refined(alloc: Global, text: &str, tasks: &str) -> Result<String, AllocError> {
+    let levels = format!(in alloc; "{FINER_LEVEL}var v0 ")?;
+    let listed = format!(in alloc; "{tasks}timestep\n")?;
+    let text = text.replace(alloc, "var v0 ", levels.as_str())?;
+    text.as_str().replace(alloc, "timestep\n", listed.as_str())
+}
+
+/// A row of 1,024 patches, one task that computes a variable on each of eight materials, and seven that modify it: 65,536 detailed
+/// tasks.
+pub fn many_detailed(alloc: Global) -> Result<String, AllocError> {
     let row = row_of_patches(alloc)?;
     let again = numbered(
         alloc,
-        modifying,
+        7,
         "task again",
         " levels 0 materials 0 1 2 3 4 5 6 7\nmodifies v0 = 0\n",
     )?;
@@ -110,37 +117,75 @@ pub fn many_detailed(alloc: Global, modifying: u32) -> Result<String, AllocError
     problem(alloc, 8, row.as_str(), 1, tasks.as_str())
 }
 
-/// A row of patches, and so many variables that a task computes on each material: 8,192 slots each.
-pub fn many_slots(alloc: Global, variables: u32) -> Result<String, AllocError> {
+/// A row of 1,024 patches, and 32 variables that a task computes on each of eight materials: 262,144 slots.
+pub fn many_slots(alloc: Global) -> Result<String, AllocError> {
     let row = row_of_patches(alloc)?;
-    let computes = numbered(alloc, variables, "computes v", " = 0\n")?;
+    let computes = numbered(alloc, 32, "computes v", " = 0\n")?;
     let task = format!(in alloc; "{ON_EIGHT_MATERIALS}{computes}")?;
-    problem(alloc, 8, row.as_str(), variables, task.as_str())
+    problem(alloc, 8, row.as_str(), 32, task.as_str())
 }
 
-/// A block of patches so wide, and a task that sees all of it from each patch as far as 8 layers go, on each material: at a width
-/// of 8 each of 512 patches reads each of them.
-pub fn many_reads(alloc: Global, width: u32) -> Result<String, AllocError> {
-    let block = block_of_patches(alloc, width)?;
-    let tasks = format!(in alloc;
-        "{ON_EIGHT_MATERIALS}computes v0 = 0\ntask wide levels 0 materials 0 1 2 3 4 5 6 7\nrequires new v0 cells 8\ncomputes v1 = 0\n"
-    )?;
-    problem(alloc, 8, block.as_str(), 2, tasks.as_str())
-}
-
-/// A cube, and so many variables that a task computes on each material: 2,097,152 numbers each.
-pub fn many_stored(alloc: Global, variables: u32) -> Result<String, AllocError> {
+/// Patches of one cell, and tasks that read so many variables through eight layers on each of eight materials.
+fn seen(alloc: Global, grid: &str, variables: u32) -> Result<String, AllocError> {
     let computes = numbered(alloc, variables, "computes v", " = 0\n")?;
-    let task = format!(in alloc; "{ON_EIGHT_MATERIALS}{computes}")?;
-    problem(alloc, 8, CUBE, variables, task.as_str())
+    let wanted = numbered(alloc, variables, "requires new v", " cells 8\n")?;
+    let tasks = format!(in alloc;
+        "{ON_EIGHT_MATERIALS}{computes}task wide levels 0 materials 0 1 2 3 4 5 6 7\n{wanted}computes v9 = 0\n"
+    )?;
+    problem(alloc, 8, grid, 10, tasks.as_str())
 }
 
-/// A cube, and so many variables that one task reads: 262,144 numbers each.
-pub fn many_gathered(alloc: Global, variables: u32) -> Result<String, AllocError> {
+/// 8 times 8 times 8 patches, each of which sees all of them, on each of eight materials: 2,097,152 reads.
+pub fn many_reads(alloc: Global) -> Result<String, AllocError> {
+    let block = block_of_patches(alloc, [8, 8, 8])?;
+    seen(alloc, block.as_str(), 1)
+}
+
+/// 32 times 32 patches, and windows of so many variables: 1,782,272 reads each.
+pub fn wide_windows(alloc: Global, variables: u32) -> Result<String, AllocError> {
+    let block = block_of_patches(alloc, [32, 32, 1])?;
+    seen(alloc, block.as_str(), variables)
+}
+
+/// A level of one patch, and variables that its task computes on each material.
+fn stored(alloc: Global, grid: &str, variables: u32, last: &str) -> Result<String, AllocError> {
     let computes = numbered(alloc, variables, "computes v", " = 0\n")?;
-    let wanted = numbered(alloc, variables, "requires new v", " none\n")?;
+    let tasks = format!(in alloc; "{ON_EIGHT_MATERIALS}{computes}{last}")?;
+    problem(alloc, 8, grid, 33, tasks.as_str())
+}
+
+/// Eight variables on eight materials of 262,144 cells: 16,777,216 numbers.
+pub fn many_stored(alloc: Global) -> Result<String, AllocError> {
+    stored(alloc, CUBE, 8, "")
+}
+
+/// 257 fields of 65,281 cells, which are 16,777,217 numbers: of 32 variables on eight materials, and of one on one of them.
+pub fn one_more_stored(alloc: Global) -> Result<String, AllocError> {
+    let last = "task last levels 0 materials 0\ncomputes v32 = 0\n";
+    stored(
+        alloc,
+        "box 0 0 0 673 97 1\npatch 0 0 0 673 97 1\n",
+        32,
+        last,
+    )
+}
+
+/// A cube, and eight variables that one task reads, and perhaps a reduction besides: 2,097,152 numbers or one more.
+fn gathered(alloc: Global, reduces: &str, wanted: &str) -> Result<String, AllocError> {
+    let computes = numbered(alloc, 8, "computes v", " = 0\n")?;
+    let windows = numbered(alloc, 8, "requires new v", " none\n")?;
     let tasks = format!(in alloc;
-        "task start levels 0 materials 0\n{computes}task again levels 0 materials 0\n{wanted}modifies v0 = 0\n"
+        "task start levels 0 materials 0\n{computes}{reduces}task again levels 0 materials 0\n{windows}{wanted}modifies v0 = 0\n"
     )?;
-    problem(alloc, 1, CUBE, variables, tasks.as_str())
+    let text = problem(alloc, 1, CUBE, 8, tasks.as_str())?;
+    text.as_str()
+        .replace(alloc, "init\n", "reduction r sum\ninit\n")
+}
+
+pub fn many_gathered(alloc: Global) -> Result<String, AllocError> {
+    gathered(alloc, "", "")
+}
+
+pub fn one_more_gathered(alloc: Global) -> Result<String, AllocError> {
+    gathered(alloc, "reduces r cell = 0\n", "requires new r\n")
 }

@@ -1,7 +1,7 @@
 //! Each limit is reached by a text that is accepted. Counts are by hand; the texts that go one beyond stand in `refusals_tests`.
 use crate::drafts_tests::{
     FINER_LEVEL, is_accepted, many_detailed, many_gathered, many_lines, many_reads, many_slots,
-    many_stored, numbered, row_of_patches,
+    many_stored, numbered, row_of_patches, wide_windows,
 };
 use crate::tests::TWO_PATCHES;
 use std::test::Fail;
@@ -64,11 +64,12 @@ fn a_task_of_64_lines_is_accepted(rt: HostRuntime) -> Result<(), Fail> {
 fn the_largest_plans_are_accepted(rt: HostRuntime) -> Result<(), Fail> {
     let alloc = rt.alloc();
     for (text, count) in [
-        (many_detailed(alloc, 7)?, "65,536 detailed tasks"),
-        (many_slots(alloc, 32)?, "262,144 slots"),
-        (many_reads(alloc, 8)?, "2,097,152 reads"),
-        (many_stored(alloc, 8)?, "16,777,216 numbers"),
-        (many_gathered(alloc, 8)?, "2,097,152 numbers gathered"),
+        (many_detailed(alloc)?, "65,536 detailed tasks"),
+        (many_slots(alloc)?, "262,144 slots"),
+        (many_reads(alloc)?, "2,097,152 reads"),
+        (wide_windows(alloc, 1)?, "1,782,272 reads"),
+        (many_stored(alloc)?, "16,777,216 numbers"),
+        (many_gathered(alloc)?, "2,097,152 numbers gathered"),
     ] {
         assert!(rt; is_accepted(alloc, text.as_str())?, "{count}");
     }

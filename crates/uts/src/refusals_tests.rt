@@ -1,7 +1,7 @@
 //! A smallest text for the words of each refusal of the checker. Lines are counted by hand. `docs/language.md` has the same texts.
 use crate::drafts_tests::{
-    FINER_LEVEL, is_refused, many_detailed, many_gathered, many_lines, many_reads, many_slots,
-    many_stored, numbered,
+    FINER_LEVEL, is_refused, many_detailed, many_lines, many_reads, many_slots, numbered,
+    one_more_gathered, one_more_stored, refined, wide_windows,
 };
 use crate::tests::TWO_PATCHES;
 use std::test::Fail;
@@ -25,7 +25,7 @@ fn a_changed_line_is_refused(rt: HostRuntime) -> Result<(), Fail> {
         ),
         (
             "box 0 0 0 4 1 1",
-            "box 0 0 0 4096 65 1",
+            "box 0 0 0 4033 65 1",
             "too large (cells), line 6",
         ),
         ("patch 2 0 0 4 1 1", "patch 2 0 0 3 1 1", "bad grid, line 6"),
@@ -104,14 +104,32 @@ fn a_task_of_65_lines_is_refused(rt: HostRuntime) -> Result<(), Fail> {
 }
 
 #[test]
-fn a_plan_that_is_too_large_is_refused(rt: HostRuntime) -> Result<(), Fail> {
+fn a_plan_that_is_one_too_large_is_refused(rt: HostRuntime) -> Result<(), Fail> {
     let alloc = rt.alloc();
+    let one = "task more levels 1 materials 0\ncomputes v0 = 0\n";
+    let reading =
+        "task more levels 1 materials 0\ncomputes v0 = 0\ntask last levels 1 materials 0\nrequires new v0 none\ncomputes v1 = 0\n";
+    let (detailed, slots, reads) = (
+        many_detailed(alloc)?,
+        many_slots(alloc)?,
+        many_reads(alloc)?,
+    );
     for (text, words) in [
-        (many_detailed(alloc, 8)?, "too large (detailed), line 1053"),
-        (many_slots(alloc, 33)?, "too large (slots), line 1101"),
-        (many_reads(alloc, 9)?, "too large (reads), line 593"),
-        (many_stored(alloc, 9)?, "too large (stored), line 30"),
-        (many_gathered(alloc, 9)?, "too large (gathered), line 41"),
+        (
+            refined(alloc, detailed.as_str(), one)?,
+            "too large (detailed), line 1056",
+        ),
+        (
+            refined(alloc, slots.as_str(), one)?,
+            "too large (slots), line 1104",
+        ),
+        (
+            refined(alloc, reads.as_str(), reading)?,
+            "too large (reads), line 545",
+        ),
+        (one_more_stored(alloc)?, "too large (stored), line 79"),
+        (one_more_gathered(alloc)?, "too large (gathered), line 41"),
+        (wide_windows(alloc, 2)?, "too large (reads), line 1051"),
     ] {
         assert!(rt; is_refused(alloc, text.as_str(), words)?, "{words}");
     }
