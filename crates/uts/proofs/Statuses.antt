@@ -47,6 +47,13 @@ module _ (words : List (String Global)) (left : Option (List ℕ)) (f : Failure)
   told_whole (inr failed) (inl few) =
       let high : 2 < status = subst (λ n. 2 < n) (sym failed.0) (high_after_fault f) in absurd (omega arith)
 
+-- at the statuses of a refusal standard error had no fault
+pub told_calm : (f : Failure) (after : List ℕ → List ℕ → List ℕ) (old new : Option (List ℕ)) (before now status : ℕ) → IsTold f after old new before now status →
+    (status ≡ 1) ⊎ (status ≡ 2) → now ≡ before
+told_calm f after old new before now status (inl told) few = told.2
+told_calm f after old new before now status (inr failed) few =
+    let high : 2 < status = subst (λ n. 2 < n) (sym failed.0) (high_after_fault f) in elim few [ inl one ↦ absurd (omega arith) | inr two ↦ absurd (omega arith) ]
+
 -- and else a prefix of it, or of the line that could not be told
 pub told_part : (words : List (String Global)) (left : Option (List ℕ)) (f : Failure) (after : List ℕ → List ℕ → List ℕ) (old new : Option (List ℕ)) (before now status : ℕ) →
     ErrorLine words left (status_of f) (line_of f) → IsTold f after old new before now status →

@@ -59,10 +59,10 @@ line_of ReadFault = line (codes "read fault")
 line_of WriteFault = line (codes "write fault")
 line_of NoMemory = line (codes "no memory")
 
--- A failure was told on standard error, or it failed on the way.
+-- A failure was told on standard error, which had no fault, or it failed on the way.
 abbrev pub IsTold : Failure → (List ℕ → List ℕ → List ℕ) → Option (List ℕ) → Option (List ℕ) → ℕ → ℕ → ℕ → Type 0
 IsTold failure after old new before now status =
-    ((status ≡ status_of failure) × (new ≡ grown after old (line_of failure)))
+    ((status ≡ status_of failure) × (new ≡ grown after old (line_of failure)) × (now ≡ before))
     ⊎ ((status ≡ status_after_fault failure) × Rose before now × GrewByPrefix after old new (line_of failure))
 
 -- a failure whose line is put together in memory

@@ -64,25 +64,48 @@ fn problem(
     )
 }
 
-/// A box of so many cells along x, y and z, each of them a patch.
-fn block_of_patches(alloc: Global, [width, depth, height]: [u32; 3]) -> Result<String, AllocError> {
-    let mut grid = format!(in alloc; "box 0 0 0 {width} {depth} {height}\n")?;
-    for place in 0..width * depth * height {
-        let (x, y, z) = (
-            place % width,
-            place / width % depth,
-            place / (width * depth),
-        );
-        let (high_x, high_y, high_z) = (x + 1, y + 1, z + 1);
+/// The lines of patches of one cell, so many along x, at this y and z.
+fn put_row(alloc: Global, grid: &mut String, width: u16, y: u16, z: u16) -> Result<(), AllocError> {
+    let (high_y, high_z) = (u32::from(y) + 1, u32::from(z) + 1);
+    for x in 0..width {
+        let high_x = u32::from(x) + 1;
         let patch = format!(in alloc; "patch {x} {y} {z} {high_x} {high_y} {high_z}\n")?;
         grid.push_str(patch.as_str())?;
+    }
+    Ok(())
+}
+
+/// The lines of patches of one cell, so many along x and y, at this z.
+fn put_layer(
+    alloc: Global,
+    grid: &mut String,
+    width: u16,
+    depth: u16,
+    z: u16,
+) -> Result<(), AllocError> {
+    for y in 0..depth {
+        put_row(alloc, grid, width, y, z)?;
+    }
+    Ok(())
+}
+
+/// A box of so many cells along x, y and z, each of them a patch.
+fn block_of_patches(
+    alloc: Global,
+    width: u16,
+    depth: u16,
+    height: u16,
+) -> Result<String, AllocError> {
+    let mut grid = format!(in alloc; "box 0 0 0 {width} {depth} {height}\n")?;
+    for z in 0..height {
+        put_layer(alloc, &mut grid, width, depth, z)?;
     }
     Ok(grid)
 }
 
 /// A box of 1,024 cells in a row, each of them a patch.
 pub fn row_of_patches(alloc: Global) -> Result<String, AllocError> {
-    block_of_patches(alloc, [1024, 1, 1])
+    block_of_patches(alloc, 1024, 1, 1)
 }
 
 /// The problem of two patches, whose second task has so many lines besides the two that it has.
@@ -137,13 +160,13 @@ fn seen(alloc: Global, grid: &str, variables: u32) -> Result<String, AllocError>
 
 /// 8 times 8 times 8 patches, each of which sees all of them, on each of eight materials: 2,097,152 reads.
 pub fn many_reads(alloc: Global) -> Result<String, AllocError> {
-    let block = block_of_patches(alloc, [8, 8, 8])?;
+    let block = block_of_patches(alloc, 8, 8, 8)?;
     seen(alloc, block.as_str(), 1)
 }
 
 /// 32 times 32 patches, and windows of so many variables: 1,782,272 reads each.
 pub fn wide_windows(alloc: Global, variables: u32) -> Result<String, AllocError> {
-    let block = block_of_patches(alloc, [32, 32, 1])?;
+    let block = block_of_patches(alloc, 32, 32, 1)?;
     seen(alloc, block.as_str(), variables)
 }
 

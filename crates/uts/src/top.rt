@@ -38,6 +38,9 @@ pub fn quiet_top<R: Source, O: Sink, E: Sink>(
     ensures calm { result ≡ 0 → (R.faults source.new ≡ R.faults source.old) × (O.faults out.new ≡ O.faults out.old)
         × (E.faults err.new ≡ E.faults err.old) }
 
+    // Told what is refused, only where standard error had no fault.
+    ensures told_calm { (result ≡ 1) ⊎ (result ≡ 2) → E.faults err.new ≡ E.faults err.old }
+
     // The cause of each other status.
     ensures refused { result ≡ 1 → IfSome (R.left source.old) (λ text. Answers words.now text 1 []) }
     ensures read_fault { result ≡ 3 → Rose (R.faults source.old) (R.faults source.new) }

@@ -1,13 +1,16 @@
 use Rattle.std.proofs.Common.{rules, ap, Err}
 use Rattle.uts.specs.Answer.{IsCommand, usage_line}
 use Rattle.uts.specs.declared.failure.Failure.TheVariants.{Usage}
-use Rattle.uts.proofs.Statuses.{error_line, told_whole, told_part, nothing_told, nothing_told_part, of_reported, done_with, prefix_of_answer, completed_with, completed_refusal_with, refused_with, done_refusal, of_usage}
+use Rattle.uts.proofs.Statuses.{error_line, told_whole, told_calm, told_part, nothing_told, nothing_told_part, of_reported, done_with, prefix_of_answer, completed_with, completed_refusal_with, refused_with, done_refusal, of_usage}
 use Rattle.uts.proofs.top.quiet_top.Goals as goal
 
 pub returns-in_default-clause-told : goal.returns-in_default-clause-told
 returns-in_default-clause-told g c =
     let other : IsCommand c.args.words.now → ⊥ = search rules in
     of_usage _ _ _ _ _ _ c.report.ensures.told (λ told. told_whole _ _ Usage _ _ _ _ _ _ (usage_line other) told)
+
+pub returns-in_default-clause-told_calm : goal.returns-in_default-clause-told_calm
+returns-in_default-clause-told_calm g c = of_usage _ _ _ _ _ _ c.report.ensures.told (λ told few. told_calm Usage _ _ _ _ _ _ told few)
 
 pub returns-in_default-clause-told_in_part : goal.returns-in_default-clause-told_in_part
 returns-in_default-clause-told_in_part g c =
@@ -43,6 +46,10 @@ pub returns-in-Err-clause-told : goal.returns-in-Err-clause-told
 returns-in-Err-clause-told g c =
     of_reported _ _ _ c.in-Err.failure _ _ _ _ _ _ c.in-Err.ensures.reason c.report-in-Err.ensures.told
     (λ f reason same told. told_whole _ _ f _ _ _ _ _ _ (error_line _ _ _ _ _ f c.in-Some.ensures reason) told)
+
+pub returns-in-Err-clause-told_calm : goal.returns-in-Err-clause-told_calm
+returns-in-Err-clause-told_calm g c =
+    of_reported _ _ _ c.in-Err.failure _ _ _ _ _ _ c.in-Err.ensures.reason c.report-in-Err.ensures.told (λ f reason same told few. told_calm f _ _ _ _ _ _ told few)
 
 pub returns-in-Err-clause-told_in_part : goal.returns-in-Err-clause-told_in_part
 returns-in-Err-clause-told_in_part g c =
