@@ -6,8 +6,8 @@ ghost use Rattle.grid_levels.specs.Good.{AreMultiples, IsNested, IsGood, IsGoodL
 use crate::boxes::{cells, divided};
 use crate::multiples::are_multiples;
 use crate::spans::lies_in;
-use crate::tiling::{box_of, is_tiled};
-use problem_types::{Level, Problem};
+use crate::tiling::is_tiled;
+use problem_types::{Level, Problem, level_box};
 
 /// A level breaks a rule. The line is that of the level's statement.
 #[derive(Clone, Copy, Debug, PartialEq, Eq)]
@@ -24,7 +24,10 @@ fn is_nested(coarser: &Level, level: &Level) -> bool
     requires multiples { AreMultiples level.now }
     ensures { IsTrue result ↔ IsNested coarser.now level.now }
 {
-    lies_in(divided(box_of(level), level.ratio), cells(box_of(coarser)))
+    lies_in(
+        divided(level_box(level), level.ratio),
+        cells(level_box(coarser)),
+    )
 }
 
 fn is_good_coarsest(level: &Level) -> bool

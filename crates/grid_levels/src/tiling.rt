@@ -1,5 +1,5 @@
 //! Whether the patches of a level tile its box.
-ghost use Rattle.std.specs.Prelude.{◌≡◌, ◌<◌, ◌^◌, ◌∷◌, [], ◌↔◌, IsTrue, All, AllPairs, Any, length};
+ghost use Rattle.std.specs.Prelude.{◌≡◌, ◌<◌, ◌^◌, ◌↔◌, IsTrue, All, AllPairs, Any, length};
 ghost use Rattle.std.specs.List.{sum_by};
 ghost use Rattle.uts_geom.specs.Spans.{is_inside, indexes_of};
 ghost use Rattle.uts_geom.specs.declared.index.Index.{Index};
@@ -7,7 +7,7 @@ ghost use Rattle.problem_types.specs.Levels.{HasNearBounds, IsProper, LiesIn, Ar
 
 use crate::apart::are_all_apart;
 use crate::boxes::{are_proper, cells, lie_in};
-use problem_types::{BoxLine, Level};
+use problem_types::{BoxLine, Level, level_box};
 use uts_geom::{indexes_stand_once, spans_hold_their_indexes, volume};
 
 /// How many cells the patches have together.
@@ -51,19 +51,10 @@ fn tile(patches: &[BoxLine], outer: BoxLine) -> bool
         && is_filled(patches, outer)
 }
 
-/// The level's box.
-pub(crate) fn box_of(level: &Level) -> BoxLine
-    requires { KeepsGridLimits level.now }
-    ensures only { level.now.boxes ≡ result ∷ [] }
-    ensures near { HasNearBounds result }
-{
-    level.boxes.as_slice()[0]
-}
-
 /// Whether the patches tile the level's box.
 pub(crate) fn is_tiled(level: &Level) -> bool
     requires { KeepsGridLimits level.now }
     ensures { IsTrue result ↔ IsTiled level.now }
 {
-    are_proper(level.boxes.as_slice()) && tile(level.patches.as_slice(), box_of(level))
+    are_proper(level.boxes.as_slice()) && tile(level.patches.as_slice(), level_box(level))
 }

@@ -13,7 +13,7 @@ pub use ascending::is_ascending;
 pub use copying::copy;
 pub use form::{are_layers_in_form, in_form};
 pub use kernel_ast::{Expr, How, Op, Read, Store};
-pub use lookup::{reduction_of, var_of};
+pub use lookup::{level_box, reduction_of, var_of};
 pub use name::{Name, NoMemory};
 pub use problem::{
     BoxLine, Fold, Ghost, GhostKind, Keep, Level, Num, Problem, Reduction, Require, Task, Var,
