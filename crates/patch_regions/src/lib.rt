@@ -10,7 +10,7 @@ mod tests;
 mod touches;
 
 pub use laws::{owned_spans_tile, spans_meet_in_indexes};
-pub use lines::{index_space, patch_box, patch_line};
+pub use lines::{index_space, patch_box, patch_count, patch_line};
 pub use owners::owner;
 pub use ownership::owned;
 pub use problem_types::NoMemory;

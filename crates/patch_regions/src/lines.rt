@@ -5,7 +5,7 @@ ghost use Rattle.problem_types.specs.Levels.{HasNearBounds, KeepsGridLimits, cel
 ghost use Rattle.problem_types.specs.Regions.{end_of};
 ghost use Rattle.patch_regions.specs.Regions.{patch_at, reaching};
 
-use problem_types::{BoxLine, Level};
+use problem_types::{BoxLine, Level, level_box};
 use uts_geom::{Axis, Centring, Index, Span, point_like};
 
 /// An index by its coordinates.
@@ -49,10 +49,11 @@ pub(crate) fn reaching(b: BoxLine, x: bool, y: bool, z: bool) -> Span
     }
 }
 
-/// How many patches there are.
-pub(crate) fn patch_count(level: &Level) -> u32
+/// How many patches the level has. Their numbers are those below it.
+pub fn patch_count(level: &Level) -> u32
     requires { length level.now.patches ≤ 1024 }
-    ensures { result ≡ length level.now.patches }
+    ensures count { result ≡ length level.now.patches }
+    ensures few { result ≤ 1024 }
 {
     level.patches.len() as u32
 }
@@ -76,22 +77,14 @@ pub fn patch_box(level: &Level, patch: u32) -> Span
     reaching(patch_line(level, patch), false, false, false)
 }
 
-/// The line of the level's box.
-fn box_line(level: &Level) -> BoxLine
-    requires { KeepsGridLimits level.now }
-    ensures line { level.now.boxes ≡ result ∷ [] }
-    ensures near { HasNearBounds result }
-{
-    level.boxes.as_slice()[0]
-}
-
-/// The index space of the level's box.
+/// The index space of the level's box, half-open on each axis: the box's cells, and on the axes on which the centring is
+/// point-like the high bound besides. Its indexes are listed with x fastest, then y, then z.
 pub fn index_space(level: &Level, c: Centring) -> Span
     requires { KeepsGridLimits level.now }
     ensures { spaces_on c level.now ≡ result ∷ [] }
 {
     reaching(
-        box_line(level),
+        level_box(level),
         point_like(c, Axis::X),
         point_like(c, Axis::Y),
         point_like(c, Axis::Z),

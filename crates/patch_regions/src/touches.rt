@@ -32,7 +32,7 @@ fn put_if(touches: bool, patch: u32, found: &mut Vec<u32>) -> Result<(), AllocEr
     Ok(())
 }
 
-/// The patches that own an index of the span, by ascending number.
+/// The patches that own an index of the half-open span, by ascending number, each once. A span without indexes touches none.
 pub fn touching(alloc: Global, level: &Level, c: Centring, s: Span) -> Result<Vec<u32>, NoMemory>
     requires { KeepsGridLimits level.now }
     ensures { IfOk result (λ found. found.items ≡ touching_patches c level.now s) }
