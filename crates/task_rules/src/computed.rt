@@ -10,14 +10,14 @@ use crate::neighbours::{is_among, is_next_among};
 use problem_types::{Ghost, GhostKind, Task, What};
 
 /// Whether the task runs on this material and this level.
-fn runs_on(t: &Task, material: u64, level: u64) -> bool
+pub fn runs_on(t: &Task, material: u64, level: u64) -> bool
     ensures { result ≡ runs_on t.now material level }
 {
     is_among(t.materials.as_slice(), material) && is_among(t.levels.as_slice(), level)
 }
 
 /// Whether one of the tasks computes the variable on this material and this level.
-pub(crate) fn computes(tasks: &[Task], name: u32, material: u64, level: u64) -> bool
+pub fn computes(tasks: &[Task], name: u32, material: u64, level: u64) -> bool
     ensures { result ≡ computes tasks.now name material level }
 {
     tasks.iter().any(|t| runs_on(t, material, level) && has_computes(t.writes.as_slice(), name))

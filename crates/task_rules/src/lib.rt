@@ -10,7 +10,8 @@ mod neighbours;
 mod reads;
 
 pub use computed::{
-    is_computed_beside, is_computed_only_later, is_lacking, is_left_out, is_never_written,
+    computes, is_computed_beside, is_computed_only_later, is_lacking, is_left_out,
+    is_never_written, runs_on,
 };
 pub use levels::wants_missing_level;
 pub use lines::{has_computes, has_modifies, has_reduces, reduces, wanted_name};

@@ -9,7 +9,8 @@ use crate::names::{is_reduction, is_variable};
 use kernel_ast::{Expr, Read, Store};
 use problem_types::Problem;
 
-/// A rule for each read of an expression.
+/// A rule for the reads of an expression: which values of variables and of reductions a kernel may read under it. What a kernel
+/// reads besides, as constants and the time, each rule allows.
 pub trait ReadRule {
     /// The reads of variables that it allows.
     ghost allows: { Self → Read → Type 0 };
@@ -17,9 +18,11 @@ pub trait ReadRule {
     /// The reads of reductions that it allows, each by its store and its name.
     ghost allows_number: { Self → Store → ℕ → Type 0 };
 
+    /// Whether the rule allows this read of a variable, with its offset and its store.
     fn allows(&self, read: &Read) -> bool
         ensures { IsTrue result ↔ allows self.now read.now };
 
+    /// Whether the rule allows a read of the reduction of this name, at the end of the step before or as this step leaves it.
     fn allows_number(&self, store: Store, name: u32) -> bool
         ensures { IsTrue result ↔ allows_number self.now store name };
 }
