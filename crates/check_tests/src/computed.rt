@@ -6,8 +6,8 @@ use sqlite_items::Items;
 use std::alloc::Global;
 use std::test::Fail;
 use task_rules::{
-    has_computes, has_modifies, is_computed_beside, is_computed_only_later, is_lacking,
-    is_left_out, is_never_written, is_read_while_modified, reduces, wanted_name,
+    computes, has_computes, has_modifies, is_computed_beside, is_computed_only_later, is_lacking,
+    is_left_out, is_never_written, is_read_while_modified, reduces, runs_on, wanted_name,
 };
 
 const NONE: Ghost = Ghost {
@@ -113,6 +113,10 @@ fn what_tasks_compute_is_found(rt: HostRuntime) -> Result<(), Fail> {
     assert!(rt; is_computed_only_later(&earlier, &later, &both, 0));
     assert!(rt; !is_computed_only_later(&earlier, &later, &coarsest, 0));
     assert!(rt; !is_never_written(&later, 0) && is_never_written(&later, 1));
+    assert!(rt;
+        computes(&later, 0, 1, 2) && !computes(&later, 0, 0, 2) && !computes(&later, 1, 1, 2)
+    );
+    assert!(rt; runs_on(&between, 0, 1) && !runs_on(&between, 0, 0) && !runs_on(&between, 2, 1));
     Ok(())
 }
 

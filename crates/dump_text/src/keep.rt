@@ -2,7 +2,7 @@
 ghost use Rattle.std.specs.Prelude.{◌≡◌, ◌<◌, ◌∷◌, [], length, All, IsTrue, IsFalse, IsSome, IfSome, MatchOption, Some, slice_get};
 ghost use Rattle.std.specs.Option.{is_some};
 ghost use Rattle.uts_geom.specs.Spans.{IsNearSpan};
-ghost use Rattle.problem_types.specs.Lists.{task_list, runs_on, computes, centring_of, variable_named};
+ghost use Rattle.problem_types.specs.Lists.{task_list, centring_of, variable_named};
 ghost use Rattle.uts_model.specs.Dump.{name_text, number_line};
 ghost use Rattle.dump_text.specs.Fields.{IsKept, all_fields, field_at, kept_lines, level_fields, lines_of_fields, material_fields};
 ghost use Rattle.dump_text.specs.Showing.{CallShows};
@@ -17,17 +17,10 @@ use crate::lines::{put_number_line, write_line};
 use crate::place::Place;
 use patch_regions::index_space;
 use probes::Probe;
-use problem_lookup::{centring_of, runs_on, task_list};
-use problem_types::{Level, Problem, Task};
-use task_rules::{has_computes, is_variable};
+use problem_lookup::{centring_of, task_list};
+use problem_types::{Level, Problem};
+use task_rules::{computes, is_variable};
 use uts_io::Sink;
-
-/// Whether one of the tasks computes the variable on this material and this level.
-fn computes(tasks: &[Task], name: u32, material: u64, level: u64) -> bool
-    ensures { result ≡ computes tasks.now name material level }
-{
-    tasks.iter().any(|t| runs_on(t, material, level) && has_computes(t.writes.as_slice(), name))
-}
 
 /// The level of this number.
 fn level_at(problem: &Problem, level: u32) -> &Level

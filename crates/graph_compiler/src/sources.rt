@@ -15,12 +15,12 @@ use crate::layout::{Layout, parts_before};
 use crate::old_places::old_place;
 use crate::old_slots::OldSlots;
 use crate::touched::Searches;
-use problem_lookup::{centring_of, field_write, is_of_field, is_reduces, runs_on};
+use problem_lookup::{centring_of, field_write, is_of_field, is_reduces};
 use problem_types::{NoMemory, Problem, Require, Store, Task, Write, reduction_of, var_of};
 use sqlite_items::Items;
 use std::alloc::{AllocError, Global};
 use task_check::{reach_of, reached_level, reduces_count};
-use task_rules::wanted_name;
+use task_rules::{runs_on, wanted_name};
 
 /// Where what a requirement wants stands for a level and a material: the number of a reduction; or, of a variable, by the search for its
 /// windows, the slots of the patches at equal distances, or the old slots.

@@ -10,11 +10,11 @@ ghost use Rattle.graph_compiler.specs.Written.{kind_written, line_slot, number_s
 
 use crate::details::patch_count;
 use crate::plan::{Slot, SlotKind};
-use problem_lookup::{is_reduces, runs_on};
+use problem_lookup::is_reduces;
 use problem_types::{NoMemory, Problem, Task, Write, WriteKind};
 use sqlite_items::Items;
 use std::alloc::{AllocError, Global};
-use task_rules::has_modifies;
+use task_rules::{has_modifies, runs_on};
 
 /// Whether the task modifies the variable on a material and a level.
 fn modifies_variable(t: &Task, name: u32, material: u32, level: u32) -> bool

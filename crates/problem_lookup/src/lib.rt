@@ -9,4 +9,4 @@ mod tests;
 
 pub use declarations::{centring_of, fold_of, outside_of};
 pub use lines::{field_write, is_of_field, is_reduces, reduction_write};
-pub use lists::{is_dumped, runs_on, task_list};
+pub use lists::{is_dumped, task_list};

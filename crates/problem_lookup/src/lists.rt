@@ -1,7 +1,6 @@
-//! The lists of tasks of a problem, and which tasks run where.
-ghost use Rattle.std.specs.Prelude.{◌≡◌, ◌≤◌, ◌==◌};
-ghost use Rattle.std.specs.List.{list_any};
-ghost use Rattle.problem_types.specs.Lists.{task_list, is_dumped, runs_on};
+//! The lists of tasks of a problem, and which steps are dumped.
+ghost use Rattle.std.specs.Prelude.{◌≡◌, ◌≤◌};
+ghost use Rattle.problem_types.specs.Lists.{task_list, is_dumped};
 
 use problem_types::{Problem, Task};
 
@@ -23,17 +22,4 @@ pub fn is_dumped(p: &Problem, step: u32) -> bool
 {
     let step = u64::from(step);
     step % p.dump.value == 0 || step == p.steps.value
-}
-
-fn is_among(numbers: &[u64], number: u64) -> bool
-    ensures { result ≡ list_any (λ n. n == number) numbers.now }
-{
-    numbers.iter().any(|n| *n == number)
-}
-
-/// Whether the task runs on this material and this level.
-pub fn runs_on(task: &Task, material: u64, level: u64) -> bool
-    ensures { result ≡ runs_on task.now material level }
-{
-    is_among(task.materials.as_slice(), material) && is_among(task.levels.as_slice(), level)
 }

@@ -1,7 +1,5 @@
 //! A problem drawn by hand: a variable 0 at nodes and one of the same name at cells, a reduction 1.
-use crate::{
-    centring_of, field_write, fold_of, is_dumped, outside_of, reduction_write, runs_on, task_list,
-};
+use crate::{centring_of, field_write, fold_of, is_dumped, outside_of, reduction_write, task_list};
 use problem_types::{
     Centring, Expr, Fold, NoMemory, Num, Problem, Reduction, Task, Var, Write, WriteKind,
 };
@@ -116,8 +114,5 @@ fn lines_are_told_apart(rt: HostRuntime) -> Result<(), Fail> {
     assert_eq!(rt; field_write(&t, 0).map(|w| w.line), Some(12));
     assert_eq!(rt; reduction_write(&t, 0).map(|w| w.line), Some(11));
     assert!(rt; field_write(&t, 1).is_none());
-    assert!(rt; runs_on(&t, 1, 2));
-    assert!(rt; !runs_on(&t, 1, 1));
-    assert!(rt; !runs_on(&t, 0, 2));
     Ok(())
 }

@@ -5,8 +5,9 @@ ghost use Rattle.uts_model.specs.WholeField.{reduced_centring};
 ghost use Rattle.uts_model.specs.Kernels.{field_kernel};
 
 use crate::moments::Site;
-use problem_lookup::{field_write, runs_on};
+use problem_lookup::field_write;
 use problem_types::{Centring, Expr, Problem, Task, WriteKind};
+use task_rules::runs_on;
 
 /// The name of a variable by its place among the declarations.
 pub(crate) fn variable_name(problem: &Problem, place: u32) -> u32
