@@ -38,7 +38,8 @@ use Rattle.graph_compiler.specs.declared.sources.Source.{Source}
 use Rattle.graph_compiler.specs.declared.sources.Source.TheVariants as source
 use Rattle.graph_compiler.specs.declared.sources.Sources.{Sources}
 use Rattle.graph_compiler.specs.declared.touched.Touched.{Touched}
-use Rattle.graph_compiler.proofs.InWindows.{found_in_windows, reached_by, reaches_nothing}
+use Rattle.task_check.specs.Reached.{reached_by, reaches_nothing}
+use Rattle.graph_compiler.proofs.InWindows.{found_in_windows}
 use Rattle.graph_compiler.specs.Slots.{AreOnce}
 use Rattle.graph_compiler.proofs.OneLine.{are_once}
 use Rattle.graph_compiler.proofs.Placed.{none_at, position_at, position_none}

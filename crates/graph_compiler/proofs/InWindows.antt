@@ -1,10 +1,8 @@
 -- A search for the windows of a requirement finds the patches that are in them.
-use Rattle.std.proofs.Common.{◌≡◌, ◌∙◌, ◌<◌, ◌≤◌, ℕ, List, [], Bool, true, false, Option, Some, None, length, filter, ap, sym, refl, subst}
+use Rattle.std.proofs.Common.{◌≡◌, ◌∙◌, ◌<◌, ℕ, List, [], false, Option, Some, length, filter, ap, sym, subst}
 use Rattle.std.specs.Prelude.{slice_get, slice_index_or}
 use Rattle.std.specs.Option.{option_map_or}
 use Rattle.std.proofs.lemmas.List.Elements.{filter_agree}
-use Rattle.kernel_ast.specs.declared.expression.Store.{Store}
-use Rattle.kernel_ast.specs.declared.expression.Store.TheVariants as store
 use Rattle.uts_geom.specs.Spans.{counted}
 use Rattle.uts_geom.specs.declared.centring.Centring.{Centring}
 use Rattle.uts_geom.specs.declared.span.Span.{Span}
@@ -13,67 +11,15 @@ use Rattle.problem_types.specs.Lists.{centring_of}
 use Rattle.problem_types.specs.declared.problem.Problem.{Problem}
 use Rattle.problem_types.specs.declared.problem.Level.{Level}
 use Rattle.problem_types.specs.declared.problem.Task.{Task}
-use Rattle.problem_types.specs.declared.problem.Ghost.{Ghost}
-use Rattle.problem_types.specs.declared.problem.GhostKind.{GhostKind}
-use Rattle.problem_types.specs.declared.problem.GhostKind.TheVariants as ghosts
 use Rattle.problem_types.specs.declared.problem.Require.{Require}
-use Rattle.problem_types.specs.declared.problem.What.{What}
-use Rattle.problem_types.specs.declared.problem.What.TheVariants as what
 use Rattle.patch_regions.specs.Regions.{do_meet, owned_span, touching_patches}
-use Rattle.ghost_rules.specs.Windows.{AreFewSeen}
-use Rattle.task_rules.specs.Lines.{has_modifies, wanted_level, wanted_name}
-use Rattle.task_check.specs.Plan.{is_in_window, is_of_number, patches_of, wanted_window}
-use Rattle.task_check.specs.Reaches.{IsFewReached, reach_of, reach_window, reached_level}
-use Rattle.task_check.specs.Supplies.{layers_of, seen_by_kind, seen_of}
+use Rattle.task_rules.specs.Lines.{wanted_level, wanted_name}
+use Rattle.task_check.specs.Plan.{is_in_window, patches_of, wanted_window}
+use Rattle.task_check.specs.Reached.{IsReachedBy}
+use Rattle.task_check.specs.Reaches.{reach_window, reached_level}
 use Rattle.task_check.specs.declared.plan.reach.Reach.{Reach}
-use Rattle.task_check.specs.declared.plan.reach.Reach.TheVariants as reaches
 use Rattle.graph_compiler.specs.Searched.{AreSearched, IsFor, IsSearched, found_by}
 use Rattle.graph_compiler.specs.declared.touched.Touched.{Touched}
-
--- a requirement of a variable reaches the level that it wants, by the windows that it asks for
-pub record IsReachedBy (p : Problem) (t : Task) (at : Store) (w : What) (reach : Reach) : Type 0 where
-  pub variable : is_of_number w ≡ false
-  pub level_is : (level : ℕ) → reached_level reach level ≡ wanted_level w level
-  pub window_is : (level : ℕ) (l : Level) (patch : ℕ) → reach_window p reach (centring_of p (wanted_name w)) level l patch ≡ wanted_window p t at w level l patch
-  pub few : layers_of w ≤ 8 → IsFewReached reach
-
-few_seen : (modifies : Bool) (layers : Ghost) (k : GhostKind) (at : Store) → layers.n ≤ 8 → AreFewSeen (seen_by_kind modifies layers k at)
-few_seen true layers ghosts.None store.New few = tt
-few_seen modifies layers k at few = few
-
-pub reached_by : (p : Problem) (t : Task) (at : Store) (w : What) (reach : Reach) → reach_of t at w ≡ Some reach → IsReachedBy p t at w reach
-reached_by p t at (what.Same var layers) reach is =
-    let one : reaches.Same (seen_of t var at layers) ≡ reach = cc in
-    subst (IsReachedBy p t at (what.Same var layers)) one (record {
-      variable = refl;
-      level_is = λ level. refl;
-      window_is = λ level l patch. refl;
-      few = few_seen (has_modifies t.writes var) layers layers.kind at;
-    })
-reached_by p t at (what.Coarse var layers) reach is =
-    let one : reaches.Coarse layers ≡ reach = cc in
-    subst (IsReachedBy p t at (what.Coarse var layers)) one (record {
-      variable = refl;
-      level_is = λ level. refl;
-      window_is = λ level l patch. refl;
-      few = λ few. few;
-    })
-reached_by p t at (what.Fine var) reach is =
-    let one : reaches.Fine ≡ reach = cc in
-    subst (IsReachedBy p t at (what.Fine var)) one (record {
-      variable = refl;
-      level_is = λ level. refl;
-      window_is = λ level l patch. refl;
-      few = λ few. tt;
-    })
-reached_by p t at (what.Number name) reach is = absurd cc
-
--- a requirement that reaches nothing is of a reduction
-pub reaches_nothing : (t : Task) (at : Store) (w : What) → reach_of t at w ≡ None → is_of_number w ≡ true
-reaches_nothing t at (what.Same var layers) is = absurd cc
-reaches_nothing t at (what.Coarse var layers) is = absurd cc
-reaches_nothing t at (what.Fine var) is = absurd cc
-reaches_nothing t at (what.Number name) is = refl
 
 -- for each patch of a level the patches that own an index of the window around it
 abbrev Finds : Problem → (level : ℕ) → Reach → Centring → List (List ℕ) → Type 0

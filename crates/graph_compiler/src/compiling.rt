@@ -24,7 +24,7 @@ use std::alloc::Global;
 use task_check::{Checked, bounds};
 
 /// The number of a list: 0 for the list of step 0, 1 for that of each later step.
-fn list_number(list: ListKind) -> usize
+fn list_number(list: ListKind) -> u32
     ensures { result ≡ list_number list }
 {
     match list {

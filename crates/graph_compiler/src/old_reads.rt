@@ -85,7 +85,7 @@ fn put_patches(
     marks: &mut Vec<bool>,
     slots: &mut Items<Slot>,
     p: &Problem,
-    list: usize,
+    list: u32,
     name: u32,
     level: u32,
     material: u32,
@@ -110,7 +110,7 @@ fn put_level(
     marks: &mut Vec<bool>,
     slots: &mut Items<Slot>,
     p: &Problem,
-    list: usize,
+    list: u32,
     name: u32,
     level: u32,
 ) -> Result<(), AllocError>
@@ -132,7 +132,7 @@ fn put_variable(
     marks: &mut Vec<bool>,
     slots: &mut Items<Slot>,
     p: &Problem,
-    list: usize,
+    list: u32,
     name: u32,
 ) -> Result<(), AllocError>
     requires form { IsProblemInForm p.now }
@@ -152,7 +152,7 @@ fn put_variables(
     alloc: Global,
     slots: &mut Items<Slot>,
     p: &Problem,
-    list: usize,
+    list: u32,
 ) -> Result<Vec<bool>, AllocError>
     requires form { IsProblemInForm p.now }
     requires accepted { IsAccepted p.now }
@@ -172,7 +172,7 @@ fn put_numbers(
     alloc: Global,
     slots: &mut Items<Slot>,
     p: &Problem,
-    list: usize,
+    list: u32,
 ) -> Result<Vec<bool>, AllocError>
     requires form { IsProblemInForm p.now }
     requires accepted { IsAccepted p.now }
@@ -188,7 +188,7 @@ fn put_numbers(
 }
 
 /// What the tasks of a list read of the step before.
-pub(crate) fn old_reads(alloc: Global, p: &Problem, list: usize) -> Result<OldReads, NoMemory>
+pub(crate) fn old_reads(alloc: Global, p: &Problem, list: u32) -> Result<OldReads, NoMemory>
     requires form { IsProblemInForm p.now }
     requires accepted { IsAccepted p.now }
     requires limits { IsBounded p.now }

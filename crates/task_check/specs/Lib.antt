@@ -7,6 +7,7 @@ pub mod Parts
 pub mod Plan
 pub mod Counts
 pub mod Reaches
+pub mod Reached
 pub mod Kept
 pub mod Columns
 pub mod PlanSums

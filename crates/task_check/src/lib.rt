@@ -27,8 +27,8 @@ pub use laws::{
     accepted_problems_are_bounded, accepted_problems_have_none, bounds, first_faults_are_one,
     problems_are_judged,
 };
-pub use plan::details::{part_count, reduces_count};
-pub use plan::old_reads::{is_number_read, is_required, read_patches};
+pub use plan::details::reduces_count;
+pub use plan::old_reads::{is_number_read, read_patches};
 pub use plan::reach::Reach;
 pub use plan::reads::reach_of;
 pub use plan::touches::reached_level;

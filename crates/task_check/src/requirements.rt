@@ -8,9 +8,10 @@ ghost use Rattle.problem_types.specs.Form.{IsProblemInForm};
 
 use crate::fault::{Fault, FaultKind, Which};
 use crate::line::{Line, first_fault};
-use crate::slices::{front, item, tasks};
+use crate::slices::{front, item};
 use crate::supplies::layers_of;
 use kernel_ast::Store;
+use problem_lookup::task_list;
 use problem_types::{Problem, Require, Task};
 use task_rules::{is_known, is_lacking, is_repeated, wants_missing_level};
 
@@ -18,7 +19,7 @@ use task_rules::{is_known, is_lacking, is_repeated, wants_missing_level};
 #[derive(Clone, Copy)]
 struct RequireLine<'a> {
     problem: &'a Problem,
-    list: usize,
+    list: u32,
     place: usize,
     task: &'a Task,
     at_line: usize,
@@ -26,11 +27,11 @@ struct RequireLine<'a> {
 }
 
 /// Whether the task at this place of a list finds no number for what it requires.
-fn finds_nothing(p: &Problem, list: usize, place: usize, task: &Task, r: Require) -> bool
+fn finds_nothing(p: &Problem, list: u32, place: usize, task: &Task, r: Require) -> bool
     ensures { IsTrue result ↔ FindsNothing p.now list place task.now r.store r.what }
 {
     match r.store {
-        Store::New => is_lacking(front(tasks(p, list), place), task, r.what),
+        Store::New => is_lacking(front(task_list(p, list), place), task, r.what),
         Store::Old => {
             list == 0
                 || is_lacking(p.init.as_slice(), task, r.what)
@@ -61,7 +62,7 @@ impl Line for RequireLine<'_> {
 /// The first fault of a `requires` line of the task at this place of a list.
 pub(crate) fn requirements_fault(
     problem: &Problem,
-    list: usize,
+    list: u32,
     place: usize,
     task: &Task,
 ) -> Option<Fault>

@@ -9,15 +9,16 @@ ghost use Rattle.problem_types.specs.Form.{IsProblemInForm};
 use crate::fault::{Fault, FaultKind, Which};
 use crate::line::{Line, first_fault};
 use crate::requirements::requirements_fault;
-use crate::slices::{front, item, tasks};
+use crate::slices::{front, item};
 use crate::writes::writes_fault;
+use problem_lookup::task_list;
 use problem_types::{Problem, Task};
 
 /// A `task` line, at its place in a list.
 #[derive(Clone, Copy)]
 struct TaskLine<'a> {
     problem: &'a Problem,
-    list: usize,
+    list: u32,
     place: usize,
     task: &'a Task,
 }
@@ -27,7 +28,7 @@ impl Line for TaskLine<'_> {
 
     fn has(&self, kind: FaultKind) -> bool {
         let (problem, task) = (self.problem, self.task);
-        let earlier = front(tasks(problem, self.list), self.place);
+        let earlier = front(task_list(problem, self.list), self.place);
         match kind {
             FaultKind::TooLarge(Which::Tasks) => self.place == 64,
             FaultKind::Unknown => {
@@ -49,7 +50,7 @@ impl Line for TaskLine<'_> {
 }
 
 /// The first fault of a task, on its line or under it.
-fn task_fault(problem: &Problem, list: usize, place: usize, task: &Task) -> Option<Fault>
+fn task_fault(problem: &Problem, list: u32, place: usize, task: &Task) -> Option<Fault>
     requires form { IsProblemInForm problem.now }
     requires at { slice_get (task_list problem.now list) place ≡ Some task.now }
     requires few { problem.now.ghost_limit.value ≤ 8 }
@@ -71,12 +72,12 @@ fn task_fault(problem: &Problem, list: usize, place: usize, task: &Task) -> Opti
 }
 
 /// The first fault of the tasks of a list.
-pub(crate) fn tasks_fault(problem: &Problem, list: usize) -> Option<Fault>
+pub(crate) fn tasks_fault(problem: &Problem, list: u32) -> Option<Fault>
     requires form { IsProblemInForm problem.now }
     requires few { problem.now.ghost_limit.value ≤ 8 }
     ensures { IsFirst (OfTasks problem.now list) result }
 {
-    let tasks = tasks(problem, list);
+    let tasks = task_list(problem, list);
     for place in 0..tasks.len() {
         if let Some(fault) = task_fault(problem, list, place, item(tasks, place)) {
             return Some(fault);

@@ -9,8 +9,9 @@ ghost use Rattle.problem_types.specs.Form.{IsProblemInForm};
 
 use crate::fault::{Fault, FaultKind, Which};
 use crate::line::{Line, first_fault};
-use crate::slices::{behind, front, item, tasks};
+use crate::slices::{behind, front, item};
 use crate::supplies::is_all_supplied;
+use problem_lookup::task_list;
 use problem_types::{Problem, Task, Write, WriteKind};
 use task_rules::{
     are_names_known, has_computes, has_modifies, has_reduces, is_computed_beside,
@@ -51,7 +52,7 @@ fn is_unordered(earlier: &[Task], later: &[Task], task: &Task, lines: &[Write], 
 #[derive(Clone, Copy)]
 struct WriteLine<'a> {
     problem: &'a Problem,
-    list: usize,
+    list: u32,
     place: usize,
     task: &'a Task,
     at_line: usize,
@@ -64,7 +65,7 @@ impl Line for WriteLine<'_> {
 
     fn has(&self, kind: FaultKind) -> bool {
         let (problem, task, write) = (self.problem, self.task, self.write);
-        let list = tasks(problem, self.list);
+        let list = task_list(problem, self.list);
         let earlier = front(list, self.place);
         let later = behind(list, self.place);
         let lines = front(task.writes.as_slice(), self.at_line);
@@ -89,12 +90,7 @@ impl Line for WriteLine<'_> {
 }
 
 /// The first fault of a line that writes of the task at this place of a list.
-pub(crate) fn writes_fault(
-    problem: &Problem,
-    list: usize,
-    place: usize,
-    task: &Task,
-) -> Option<Fault>
+pub(crate) fn writes_fault(problem: &Problem, list: u32, place: usize, task: &Task) -> Option<Fault>
     requires form { IsProblemInForm problem.now }
     requires at { slice_get (task_list problem.now list) place ≡ Some task.now }
     requires few { All (λ r. layers_of r.what ≤ 8) task.now.requirements }

@@ -11,8 +11,7 @@ ghost use Rattle.patch_regions.specs.Regions.{do_meet, has_indexes, owned_span};
 ghost use Rattle.task_check.specs.Columns.{HasBounds, HasOwned, HasSpan, IsCut, IsCutWindow};
 ghost use Rattle.task_check.specs.Reaches.{touched_count};
 
-use crate::plan::touches::patch_count;
-use patch_regions::{do_meet, owned};
+use patch_regions::{do_meet, owned, patch_count};
 use problem_types::{Centring, Level};
 use uts_geom::{Axis, Index, Span};
 

@@ -7,7 +7,7 @@ ghost use Rattle.task_check.specs.First.{IsFaultless};
 ghost use Rattle.task_check.specs.Plan.{patches_of};
 ghost use Rattle.task_check.specs.Sizes.{IsTask, details_count, part_count, patches_on, reduces_count};
 
-use crate::slices::tasks;
+use problem_lookup::task_list;
 use problem_types::{Problem, Task, Write, WriteKind};
 
 /// How many patches the level has.
@@ -50,7 +50,7 @@ pub fn reduces_count(writes: &[Write]) -> usize
 }
 
 /// How many detailed tasks the task has on patches.
-pub fn part_count(p: &Problem, t: &Task) -> usize
+pub(crate) fn part_count(p: &Problem, t: &Task) -> usize
     requires form { IsProblemInForm p.now }
     requires faultless { IsFaultless p.now }
     requires task { IsTask p.now t.now }
@@ -72,7 +72,7 @@ fn details_count(p: &Problem, t: &Task) -> usize
 }
 
 /// How many detailed tasks the list has.
-pub(crate) fn detailed_count(p: &Problem, list: usize) -> usize
+pub(crate) fn detailed_count(p: &Problem, list: u32) -> usize
     requires form { IsProblemInForm p.now }
     requires faultless { IsFaultless p.now }
     requires list { list < 2 }
@@ -80,7 +80,7 @@ pub(crate) fn detailed_count(p: &Problem, list: usize) -> usize
     ensures few { result ≤ 64 * 32832 }
 {
     let mut total = 0;
-    for t in tasks(p, list) {
+    for t in task_list(p, list) {
         total += details_count(p, t);
     }
     total

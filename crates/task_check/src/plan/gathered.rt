@@ -14,9 +14,8 @@ ghost use Rattle.task_check.specs.Sizes.{IsTask, gathered_on, gathers_above, is_
 
 use crate::plan::details::{part_count, patch_count, reduces_count};
 use crate::plan::windows::{level_at, wanted_level, wanted_window};
-use crate::slices::tasks;
 use patch_regions::index_space;
-use problem_lookup::centring_of;
+use problem_lookup::{centring_of, task_list};
 use problem_types::{Centring, Level, Problem, Require, Task, What};
 use task_rules::wanted_name;
 use uts_geom::{Span, contains, meet, volume};
@@ -119,13 +118,13 @@ fn gathers_above(p: &Problem, t: &Task, limit: u64) -> bool
 }
 
 /// Whether a detailed task of the list gathers more numbers than the limit.
-pub(crate) fn is_gathered_above(p: &Problem, list: usize, limit: u64) -> bool
+pub(crate) fn is_gathered_above(p: &Problem, list: u32, limit: u64) -> bool
     requires form { IsProblemInForm p.now }
     requires faultless { IsFaultless p.now }
     requires list { list < 2 }
     ensures { IsTrue result ↔ Any (λ d. limit < gathered p.now (task_list p.now list) d) (details_of p.now (task_list p.now list)) }
 {
-    for t in tasks(p, list) {
+    for t in task_list(p, list) {
         if gathers_above(p, t, limit) {
             return true;
         }

@@ -14,7 +14,7 @@ use crate::plan::slots::{written_count, written_size};
 use problem_types::Problem;
 
 /// How many slots the plan of a list has.
-fn slot_count(p: &Problem, list: usize) -> u64
+fn slot_count(p: &Problem, list: u32) -> u64
     requires form { IsProblemInForm p.now }
     requires faultless { IsFaultless p.now }
     requires list { list < 2 }
@@ -24,7 +24,7 @@ fn slot_count(p: &Problem, list: usize) -> u64
 }
 
 /// How many numbers the slots of the plan of a list hold.
-fn stored_count(p: &Problem, list: usize) -> u64
+fn stored_count(p: &Problem, list: u32) -> u64
     requires form { IsProblemInForm p.now }
     requires faultless { IsFaultless p.now }
     requires list { list < 2 }
@@ -34,7 +34,7 @@ fn stored_count(p: &Problem, list: usize) -> u64
 }
 
 /// Whether the plan of a list is above the limit.
-fn is_above(p: &Problem, list: usize, which: Which) -> bool
+fn is_above(p: &Problem, list: u32, which: Which) -> bool
     requires form { IsProblemInForm p.now }
     requires faultless { IsFaultless p.now }
     requires list { list < 2 }

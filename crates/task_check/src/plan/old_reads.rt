@@ -14,11 +14,9 @@ ghost use Rattle.task_check.specs.OldSlots.{is_old_number, is_old_variable, read
 ghost use Rattle.task_check.specs.Plan.{Old, OldNumber, is_read, patches_of};
 ghost use Rattle.task_check.specs.Sizes.{IsTask};
 
-use crate::plan::touches::patch_count;
 use crate::plan::windows::{box_window, level_at, wanted_level};
-use crate::slices::tasks;
-use patch_regions::{do_meet, owned};
-use problem_lookup::centring_of;
+use patch_regions::{do_meet, owned, patch_count};
+use problem_lookup::{centring_of, task_list};
 use problem_types::{Centring, Level, Problem, Require, Store, Task, What};
 use task_rules::wanted_name;
 use uts_geom::Span;
@@ -142,10 +140,10 @@ fn requires_old(t: &Task, name: u32) -> bool
 }
 
 /// Whether a task of the list requires the variable as it stands at the end of the step before.
-pub fn is_required(p: &Problem, list: usize, name: u32) -> bool
+pub(crate) fn is_required(p: &Problem, list: u32, name: u32) -> bool
     ensures { result ≡ list_any (requires_old name) (task_list p.now list) }
 {
-    for t in tasks(p, list) {
+    for t in task_list(p, list) {
         if requires_old(t, name) {
             return true;
         }
@@ -154,7 +152,7 @@ pub fn is_required(p: &Problem, list: usize, name: u32) -> bool
 }
 
 /// The patches of a level on which a task of the list reads the variable at the end of the step before, for the material.
-pub fn read_patches(p: &Problem, list: usize, name: u32, level: u64, material: u64) -> [bool; 1024]
+pub fn read_patches(p: &Problem, list: u32, name: u32, level: u64, material: u64) -> [bool; 1024]
     requires form { IsProblemInForm p.now }
     requires faultless { IsFaultless p.now }
     requires list { list < 2 }
@@ -162,20 +160,20 @@ pub fn read_patches(p: &Problem, list: usize, name: u32, level: u64, material: u
     ensures { (patch : ℕ) → patch < length (patches_of p.now level) → is_marked result patch ≡ is_read p.now (task_list p.now list) (Old name level material patch) }
 {
     let mut marks = [false; 1024];
-    for t in tasks(p, list) {
+    for t in task_list(p, list) {
         mark_read(&mut marks, p, t, name, level, material);
     }
     marks
 }
 
 /// Whether a task of the list reads the reduction at the end of the step before.
-pub fn is_number_read(p: &Problem, list: usize, name: u32) -> bool
+pub fn is_number_read(p: &Problem, list: u32, name: u32) -> bool
     requires form { IsProblemInForm p.now }
     requires faultless { IsFaultless p.now }
     requires list { list < 2 }
     ensures { result ≡ is_read p.now (task_list p.now list) (OldNumber name) }
 {
-    for t in tasks(p, list) {
+    for t in task_list(p, list) {
         if reads_number(t, name) {
             return true;
         }

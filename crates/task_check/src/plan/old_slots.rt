@@ -61,7 +61,7 @@ fn owned_count(p: &Problem, c: Centring, level: u64, patch: u32) -> u64
 }
 
 /// The tally of a variable on a level, for a material.
-fn of_material(p: &Problem, list: usize, name: u32, level: u64, material: u64) -> Tally
+fn of_material(p: &Problem, list: u32, name: u32, level: u64, material: u64) -> Tally
     requires form { IsProblemInForm p.now }
     requires faultless { IsFaultless p.now }
     requires list { list < 2 }
@@ -80,7 +80,7 @@ fn of_material(p: &Problem, list: usize, name: u32, level: u64, material: u64) -
 }
 
 /// The tally of a variable on a level.
-fn of_level(p: &Problem, list: usize, name: u32, level: u64) -> Tally
+fn of_level(p: &Problem, list: u32, name: u32, level: u64) -> Tally
     requires form { IsProblemInForm p.now }
     requires faultless { IsFaultless p.now }
     requires list { list < 2 }
@@ -97,7 +97,7 @@ fn of_level(p: &Problem, list: usize, name: u32, level: u64) -> Tally
 }
 
 /// The tally of a variable on all levels.
-fn of_levels(p: &Problem, list: usize, name: u32) -> Tally
+fn of_levels(p: &Problem, list: u32, name: u32) -> Tally
     requires form { IsProblemInForm p.now }
     requires faultless { IsFaultless p.now }
     requires list { list < 2 }
@@ -114,7 +114,7 @@ fn of_levels(p: &Problem, list: usize, name: u32) -> Tally
 }
 
 /// The tally of a variable.
-fn of_variable(p: &Problem, list: usize, name: u32) -> Tally
+fn of_variable(p: &Problem, list: u32, name: u32) -> Tally
     requires form { IsProblemInForm p.now }
     requires faultless { IsFaultless p.now }
     requires list { list < 2 }
@@ -131,7 +131,7 @@ fn of_variable(p: &Problem, list: usize, name: u32) -> Tally
 }
 
 /// The tally of all variables.
-fn of_variables(p: &Problem, list: usize) -> Tally
+fn of_variables(p: &Problem, list: u32) -> Tally
     requires form { IsProblemInForm p.now }
     requires faultless { IsFaultless p.now }
     requires list { list < 2 }
@@ -146,7 +146,7 @@ fn of_variables(p: &Problem, list: usize) -> Tally
 }
 
 /// The tally of all reductions.
-fn of_reductions(p: &Problem, list: usize) -> Tally
+fn of_reductions(p: &Problem, list: u32) -> Tally
     requires form { IsProblemInForm p.now }
     requires faultless { IsFaultless p.now }
     requires list { list < 2 }
@@ -161,7 +161,7 @@ fn of_reductions(p: &Problem, list: usize) -> Tally
 }
 
 /// The slots of the step before that the tasks of the list read.
-pub(crate) fn old_slots(p: &Problem, list: usize) -> Tally
+pub(crate) fn old_slots(p: &Problem, list: u32) -> Tally
     requires form { IsProblemInForm p.now }
     requires faultless { IsFaultless p.now }
     requires list { list < 2 }

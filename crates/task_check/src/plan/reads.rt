@@ -14,9 +14,8 @@ ghost use Rattle.task_check.specs.Sizes.{IsTask};
 use crate::plan::details::{part_count, patch_count, reduces_count};
 use crate::plan::kept::Touches;
 use crate::plan::reach::Reach;
-use crate::slices::tasks;
 use crate::supplies::seen_of;
-use problem_lookup::centring_of;
+use problem_lookup::{centring_of, task_list};
 use problem_types::{Problem, Require, Task, What};
 use task_rules::wanted_name;
 
@@ -97,7 +96,7 @@ fn add_task(p: &Problem, t: &Task, before: u64, touches: &mut Touches) -> Option
 }
 
 /// How many pairs there are of a detailed task of the list and a slot that it reads, `None` where there are more than the limit.
-pub(crate) fn read_count(p: &Problem, list: usize) -> Option<u64>
+pub(crate) fn read_count(p: &Problem, list: u32) -> Option<u64>
     requires form { IsProblemInForm p.now }
     requires faultless { IsFaultless p.now }
     requires list { list < 2 }
@@ -105,7 +104,7 @@ pub(crate) fn read_count(p: &Problem, list: usize) -> Option<u64>
 {
     let mut touches = Touches::new();
     let mut total = 0;
-    for t in tasks(p, list) {
+    for t in task_list(p, list) {
         total = add_task(p, t, total, &mut touches)?;
     }
     Some(total)

@@ -11,9 +11,8 @@ ghost use Rattle.task_check.specs.Sizes.{IsTask, line_size, line_total, owned_on
 
 use crate::plan::details::{part_count, patch_count, reduces_count};
 use crate::plan::windows::level_at;
-use crate::slices::tasks;
 use patch_regions::owned;
-use problem_lookup::centring_of;
+use problem_lookup::{centring_of, task_list};
 use problem_types::{Centring, Problem, Task, Write, WriteKind};
 use uts_geom::volume;
 
@@ -30,7 +29,7 @@ fn slots_written(p: &Problem, t: &Task) -> usize
 }
 
 /// How many slots the detailed tasks of the list write.
-pub(crate) fn written_count(p: &Problem, list: usize) -> usize
+pub(crate) fn written_count(p: &Problem, list: u32) -> usize
     requires form { IsProblemInForm p.now }
     requires faultless { IsFaultless p.now }
     requires list { list < 2 }
@@ -38,7 +37,7 @@ pub(crate) fn written_count(p: &Problem, list: usize) -> usize
     ensures few { result ≤ 64 * 2097216 }
 {
     let mut total = 0;
-    for t in tasks(p, list) {
+    for t in task_list(p, list) {
         total += slots_written(p, t);
     }
     total
@@ -117,7 +116,7 @@ fn written_total(p: &Problem, t: &Task) -> u64
 }
 
 /// How many numbers the slots hold that the detailed tasks of the list write.
-pub(crate) fn written_size(p: &Problem, list: usize) -> u64
+pub(crate) fn written_size(p: &Problem, list: u32) -> u64
     requires form { IsProblemInForm p.now }
     requires faultless { IsFaultless p.now }
     requires list { list < 2 }
@@ -125,7 +124,7 @@ pub(crate) fn written_size(p: &Problem, list: usize) -> u64
     ensures few { result ≤ 64 * (2048 * 70420296369152 + 64) }
 {
     let mut total = 0;
-    for t in tasks(p, list) {
+    for t in task_list(p, list) {
         total += written_total(p, t);
     }
     total

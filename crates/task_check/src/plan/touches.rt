@@ -1,23 +1,14 @@
 //! How many patches own an index of the windows around the patches of a level.
 ghost use Rattle.std.specs.Prelude.{◌≡◌, ◌*◌, ◌<◌, ◌≤◌, length};
 ghost use Rattle.problem_types.specs.Form.{IsProblemInForm};
-ghost use Rattle.problem_types.specs.Levels.{KeepsGridLimits};
 ghost use Rattle.task_check.specs.First.{IsFaultless};
 ghost use Rattle.task_check.specs.Reaches.{IsFewReached, reached_level, touch_count};
 
 use crate::plan::columns::Columns;
 use crate::plan::reach::Reach;
 use crate::plan::windows::{level_at, reach_window};
-use problem_types::{Centring, Level, Problem};
-
-/// How many patches there are.
-pub(crate) fn patch_count(l: &Level) -> u32
-    requires { KeepsGridLimits l.now }
-    ensures count { result ≡ length l.now.patches }
-    ensures few { result ≤ 1024 }
-{
-    l.patches.len() as u32
-}
+use patch_regions::patch_count;
+use problem_types::{Centring, Problem};
 
 /// The level that is reached.
 pub fn reached_level(reach: Reach, level: u64) -> u64

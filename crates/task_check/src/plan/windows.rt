@@ -1,5 +1,5 @@
 //! The windows that requirements ask for around the patches of a task.
-ghost use Rattle.std.specs.Prelude.{◌≡◌, ◌+◌, ◌<◌, ◌≤◌, ◌+ℤ◌, ◌*ℤ◌, ◌∷◌, [], pos, if◌then◌else◌, length, slice_get, IsFalse, Some};
+ghost use Rattle.std.specs.Prelude.{◌≡◌, ◌+◌, ◌<◌, ◌≤◌, ◌+ℤ◌, ◌*ℤ◌, pos, if◌then◌else◌, length, slice_get, IsFalse, Some};
 ghost use Rattle.std.specs.List.{list_any};
 ghost use Rattle.kernel_ast.specs.declared.expression.Store.TheVariants as store;
 ghost use Rattle.uts_geom.specs.Spans.{IsNearNumber, IsNearSpan, counted};
@@ -20,14 +20,14 @@ ghost use Rattle.task_check.specs.Reaches.{IsFewReached, reach_window};
 ghost use Rattle.task_check.specs.Supplies.{seen_by_kind, seen_of};
 
 use crate::plan::reach::Reach;
-use crate::supplies::seen_of;
+use crate::plan::reads::reach_of;
 use ghost_rules::{Seen, window};
 use grid_levels::divided;
 use patch_regions::{index_space, owned, patch_box, patch_line, spans_meet_in_indexes};
 use problem_lookup::centring_of;
 use problem_types::{
     BoxLine, Centring, Ghost, GhostKind, Level, Problem, Require, Store, Task, Var, What, Write,
-    WriteKind,
+    WriteKind, level_box,
 };
 use task_rules::wanted_name;
 use uts_geom::{Axis, Index, Span, point_like};
@@ -126,15 +126,6 @@ pub fn reach_window(p: &Problem, reach: Reach, c: Centring, level: u64, patch: u
     }
 }
 
-/// The line of the level's box.
-fn box_line(l: &Level) -> BoxLine
-    requires { KeepsGridLimits l.now }
-    ensures line { l.now.boxes ≡ result ∷ [] }
-    ensures near { HasNearBounds result }
-{
-    l.boxes.as_slice()[0]
-}
-
 /// The windows that a requirement of a variable at the end of the step before asks for around the patches of a level, together: what the
 /// requirement asks for around the level's box.
 pub(crate) fn box_window(p: &Problem, what: What, from: u64) -> Span
@@ -153,8 +144,8 @@ pub(crate) fn box_window(p: &Problem, what: What, from: u64) -> Span
     let l = level_at(p, from);
     match what {
         What::Same { layers, .. } => window(layers, c, index_space(l, Centring::Cell)),
-        What::Coarse { layers, .. } => window(layers, c, divided(box_line(l), ratio_of(p, from))),
-        What::Fine { .. } => refined(c, ratio_of(p, from + 1), box_line(l)),
+        What::Coarse { layers, .. } => window(layers, c, divided(level_box(l), ratio_of(p, from))),
+        What::Fine { .. } => refined(c, ratio_of(p, from + 1), level_box(l)),
         What::Number { .. } => unreachable!(),
     }
 }
@@ -168,19 +159,8 @@ pub fn wanted_window(p: &Problem, t: &Task, r: Require, level: u64, patch: u32) 
     requires patch { (l : Level) → slice_get p.now.levels level ≡ Some l → patch < length l.patches }
     ensures { (l : Level) → slice_get p.now.levels level ≡ Some l → result ≡ wanted_window p.now t.now r.store r.what level l patch }
 {
-    match r.what {
-        What::Same { var, layers } => {
-            let seen = seen_of(t, var, r.store, layers);
-            reach_window(p, Reach::Same(seen), centring_of(p, var), level, patch)
-        }
-        What::Coarse { var, layers } => reach_window(
-            p,
-            Reach::Coarse(layers),
-            centring_of(p, var),
-            level,
-            patch,
-        ),
-        What::Fine { var } => reach_window(p, Reach::Fine, centring_of(p, var), level, patch),
-        What::Number { .. } => patch_box(level_at(p, level), patch),
+    match reach_of(t, r) {
+        Some(reach) => reach_window(p, reach, centring_of(p, wanted_name(r.what)), level, patch),
+        None => patch_box(level_at(p, level), patch),
     }
 }

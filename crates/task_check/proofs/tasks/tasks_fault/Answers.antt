@@ -8,19 +8,19 @@ use Rattle.task_check.proofs.Order.{tasks_rise, task_on}
 use Rattle.task_check.proofs.tasks.tasks_fault.Goals as goal
 
 pub task_fault-requires-clause-at : goal.task_fault-requires-clause-at
-task_fault-requires-clause-at c = ap (λ xs. slice_get xs c.loop-place.place) (sym c.tasks-tasks.ensures) ∙ c.item.ensures
+task_fault-requires-clause-at c = ap (λ xs. slice_get xs c.loop-place.place) (sym c.task_list-tasks.ensures) ∙ c.item.ensures
 
 pub returns-in-Some : goal.returns-in-Some
 returns-in-Some c = first_within task_lines (task_list c.args.problem.now c.args.list) (OfTask c.args.problem.now c.args.list)
     (task_on c.args.problem.now c.args.list) (tasks_rise c.args.problem.now c.requires.form c.args.list)
-    c.loop-place.place c.item.result.now (ap (λ xs. slice_get xs c.loop-place.place) (sym c.tasks-tasks.ensures) ∙ c.item.ensures) c.loop-place.invariant c.in-Some.fault
+    c.loop-place.place c.item.result.now (ap (λ xs. slice_get xs c.loop-place.place) (sym c.task_list-tasks.ensures) ∙ c.item.ensures) c.loop-place.invariant c.in-Some.fault
     (subst (IsFirst _) c.in-Some.is c.task_fault.ensures)
 
 pub loop-place-preserved : goal.loop-place-preserved
 loop-place-preserved c = none_more (task_list c.args.problem.now c.args.list) (OfTask c.args.problem.now c.args.list)
-    c.loop-place.place c.item.result.now (ap (λ xs. slice_get xs c.loop-place.place) (sym c.tasks-tasks.ensures) ∙ c.item.ensures) c.loop-place.invariant
+    c.loop-place.place c.item.result.now (ap (λ xs. slice_get xs c.loop-place.place) (sym c.task_list-tasks.ensures) ∙ c.item.ensures) c.loop-place.invariant
     (subst (IsFirst _) c.in_default.is c.task_fault.ensures)
 
 pub returns : goal.returns
 returns c = none_within (task_list c.args.problem.now c.args.list) (OfTask c.args.problem.now c.args.list)
-    (λ j y less. c.loop-place.invariant j y (omega (arith, less, ap length c.tasks-tasks.ensures, c.loop-place-test.false)))
+    (λ j y less. c.loop-place.invariant j y (omega (arith, less, ap length c.task_list-tasks.ensures, c.loop-place-test.false)))

@@ -1,7 +1,7 @@
 use Rattle.std.proofs.Common.{sym, arith}
 use Rattle.std.proofs.lemmas.Option.{slice_get_within}
 use Rattle.graph_compiler.proofs.Asked.{asked, bounded_at, none_reached, number_read, once_from, reached_source}
-use Rattle.graph_compiler.proofs.InWindows.{reached_by}
+use Rattle.task_check.specs.Reached.{reached_by}
 use Rattle.graph_compiler.proofs.sources.Sources.source.Goals as goal
 
 pub number-requires-clause-read : goal.number-requires-clause-read

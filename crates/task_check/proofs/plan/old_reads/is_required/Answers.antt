@@ -6,11 +6,11 @@ use Rattle.task_check.proofs.plan.old_reads.is_required.Goals as goal
 
 pub returns-then-requires_old : goal.returns-then-requires_old
 returns-then-requires_old c =
-    found_here (requires_old c.args.name) (task_list c.args.p.now c.args.list) c.tasks-t-items.result.now
-    c.tasks-t-items.ensures c.loop-t.t-index c.t-item.result c.loop-t-test.true
+    found_here (requires_old c.args.name) (task_list c.args.p.now c.args.list) c.task_list-t-items.result.now
+    c.task_list-t-items.ensures c.loop-t.t-index c.t-item.result c.loop-t-test.true
     (ap (requires_old c.args.name) (sym c.t-item.is) ∙ sym c.requires_old.ensures ∙ c.if-requires_old.true)
 
 pub returns : goal.returns
 returns c =
-    none_found (requires_old c.args.name) (task_list c.args.p.now c.args.list) c.tasks-t-items.result.now
-    c.tasks-t-items.ensures c.loop-t.t-index c.loop-t-test.false c.loop-t.invariant
+    none_found (requires_old c.args.name) (task_list c.args.p.now c.args.list) c.task_list-t-items.result.now
+    c.task_list-t-items.ensures c.loop-t.t-index c.loop-t-test.false c.loop-t.invariant

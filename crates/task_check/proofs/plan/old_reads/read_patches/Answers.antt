@@ -12,7 +12,7 @@ loop-t-init c patch below = unmarked 1024 patch
 pub loop-t-preserved : goal.loop-t-preserved
 loop-t-preserved c =
     marked_more (reads_variable c.args.p.now c.args.name c.args.level c.args.material) [] (length (patches_of c.args.p.now c.args.level))
-    (task_list c.args.p.now c.args.list) c.tasks-t-items.result.now c.tasks-t-items.ensures c.loop-t.t-index c.loop-t.marks c.mark_read.new.marks c.t-item.result
+    (task_list c.args.p.now c.args.list) c.task_list-t-items.result.now c.task_list-t-items.ensures c.loop-t.t-index c.loop-t.marks c.mark_read.new.marks c.t-item.result
     c.loop-t-test.true c.loop-t.invariant
     (marked_alike c.loop-t.marks c.mark_read.new.marks (length (patches_of c.args.p.now c.args.level)) _ _
     (λ patch below. ap (reads_variable c.args.p.now c.args.name c.args.level c.args.material patch) c.t-item.is) c.mark_read.ensures)
@@ -20,5 +20,5 @@ loop-t-preserved c =
 pub returns : goal.returns
 returns c = λ patch below.
     marked_all (reads_variable c.args.p.now c.args.name c.args.level c.args.material) [] (length (patches_of c.args.p.now c.args.level))
-    (task_list c.args.p.now c.args.list) c.tasks-t-items.result.now c.tasks-t-items.ensures c.loop-t.t-index c.loop-t.marks c.loop-t-test.false c.loop-t.invariant patch below
+    (task_list c.args.p.now c.args.list) c.task_list-t-items.result.now c.task_list-t-items.ensures c.loop-t.t-index c.loop-t.marks c.loop-t-test.false c.loop-t.invariant patch below
     ∙ sym (variable_is_read c.args.p.now (task_list c.args.p.now c.args.list) c.args.name c.args.level c.args.material patch)

@@ -12,10 +12,10 @@ pub returns-clause-count : goal.returns-clause-count
 returns-clause-count c =
     let tasks : List Task = task_list c.args.p.now c.args.list in
     c.loop-t.invariant.sum
-    ∙ ap (λ (ts : List Task). sum_by (slots_written c.args.p.now) ts) (take_all c.loop-t.t-index tasks (rw c.tasks-t-items.ensures at c.loop-t-test.false))
+    ∙ ap (λ (ts : List Task). sum_by (slots_written c.args.p.now) ts) (take_all c.loop-t.t-index tasks (rw c.task_list-t-items.ensures at c.loop-t-test.false))
     ∙ sym (written_by_tasks c.args.p.now tasks)
 
 pub returns-clause-few : goal.returns-clause-few
 returns-clause-few c =
-    let within : c.loop-t.t-index ≤ length (task_list c.args.p.now c.args.list) = rw c.tasks-t-items.ensures at c.loop-t.auto.t-index-end in
+    let within : c.loop-t.t-index ≤ length (task_list c.args.p.now c.args.list) = rw c.task_list-t-items.ensures at c.loop-t.auto.t-index-end in
     omega (arith, within, few_tasks c.args.p.now c.requires.faultless c.args.list c.requires.list, c.loop-t.invariant.few)

@@ -12,15 +12,15 @@ pub returns-clause-sum : goal.returns-clause-sum
 returns-clause-sum c =
     let tasks : List Task = task_list c.args.p.now c.args.list in
     c.loop-t.invariant.sum
-    ∙ ap (λ (ts : List Task). sum_by (written_total c.args.p.now) ts) (take_all c.loop-t.t-index tasks (rw c.tasks-t-items.ensures at c.loop-t-test.false))
+    ∙ ap (λ (ts : List Task). sum_by (written_total c.args.p.now) ts) (take_all c.loop-t.t-index tasks (rw c.task_list-t-items.ensures at c.loop-t-test.false))
     ∙ sym (sizes_by_tasks c.args.p.now tasks)
 
 pub overflow_add-total : goal.overflow_add-total
 overflow_add-total c =
-    let below : c.loop-t.t-index < length (task_list c.args.p.now c.args.list) = rw c.tasks-t-items.ensures at c.loop-t-test.true in
+    let below : c.loop-t.t-index < length (task_list c.args.p.now c.args.list) = rw c.task_list-t-items.ensures at c.loop-t-test.true in
     omega (arith, below, few_tasks c.args.p.now c.requires.faultless c.args.list c.requires.list, c.loop-t.invariant.few, c.written_total-total.ensures.few)
 
 pub returns-clause-few : goal.returns-clause-few
 returns-clause-few c =
-    let within : c.loop-t.t-index ≤ length (task_list c.args.p.now c.args.list) = rw c.tasks-t-items.ensures at c.loop-t.auto.t-index-end in
+    let within : c.loop-t.t-index ≤ length (task_list c.args.p.now c.args.list) = rw c.task_list-t-items.ensures at c.loop-t.auto.t-index-end in
     omega (arith, within, few_tasks c.args.p.now c.requires.faultless c.args.list c.requires.list, c.loop-t.invariant.few)

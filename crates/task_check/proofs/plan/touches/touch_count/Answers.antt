@@ -14,7 +14,7 @@ reached_level-requires c = omega (arith, few_levels c.args.p.now c.requires.faul
 
 pub patch_count-patch-end-requires : goal.patch_count-patch-end-requires
 patch_count-patch-end-requires c =
-    keeps_grid_limits c.args.p.now c.requires.form c.requires.faultless c.args.level c.level_at.result.now c.level_at.ensures
+    (keeps_grid_limits c.args.p.now c.requires.form c.requires.faultless c.args.level c.level_at.result.now c.level_at.ensures).few_patches
 
 pub of-owned-requires-clause-limits : goal.of-owned-requires-clause-limits
 of-owned-requires-clause-limits c =

@@ -20,14 +20,14 @@ window-requires-clause-near c =
     let b = only_box c.level_at-l.result.now limits in
     subst IsNearSpan (cells_are c.level_at-l.result.now b.0 c.index_space.result b.1 c.index_space.ensures) (space_near Cell b.0 b.2)
 
-pub box_line-requires : goal.box_line-requires
-box_line-requires c = keeps_grid_limits c.args.p.now c.requires.form c.requires.faultless c.args.from c.level_at-l.result.now c.level_at-l.ensures
+pub level_box-requires : goal.level_box-requires
+level_box-requires c = keeps_grid_limits c.args.p.now c.requires.form c.requires.faultless c.args.from c.level_at-l.result.now c.level_at-l.ensures
 
 pub divided-requires-clause-some : goal.divided-requires-clause-some
 divided-requires-clause-some c = rw c.ratio_of.ensures (ratio_within c.args.p.now c.requires.faultless c.args.from).some
 
-pub box_line-requires-in-Fine : goal.box_line-requires-in-Fine
-box_line-requires-in-Fine c = keeps_grid_limits c.args.p.now c.requires.form c.requires.faultless c.args.from c.level_at-l.result.now c.level_at-l.ensures
+pub level_box-requires-in-Fine : goal.level_box-requires-in-Fine
+level_box-requires-in-Fine c = keeps_grid_limits c.args.p.now c.requires.form c.requires.faultless c.args.from c.level_at-l.result.now c.level_at-l.ensures
 
 pub refined-requires-clause-few : goal.refined-requires-clause-few
 refined-requires-clause-few c = rw c.ratio_of-in-Fine.ensures (ratio_within c.args.p.now c.requires.faultless (c.args.from + 1)).few
@@ -44,8 +44,8 @@ returns-in-Same c = λ t l own at.
 pub returns-in-Coarse : goal.returns-in-Coarse
 returns-in-Coarse c = λ t l own at.
     let here : c.level_at-l.result.now ≡ l = (let is = c.level_at-l.ensures in cc) in
-    coarse_together c.spans_meet_in_indexes.ensures c.args.p.now c.requires.form c.requires.faultless c.args.from l at c.box_line.result
-    (subst (λ (m : Level). m.boxes ≡ c.box_line.result ∷ []) here c.box_line.ensures.line) own
+    coarse_together c.spans_meet_in_indexes.ensures c.args.p.now c.requires.form c.requires.faultless c.args.from l at c.level_box.result
+    (subst (λ (m : Level). m.boxes ≡ c.level_box.result ∷ []) here c.level_box.ensures.only) own
     (length c.args.p.now.names) c.args.what c.requires.what c.centring_of-c.result (c.centring_of-c.ensures ∙ ap (centring_of c.args.p.now) c.wanted_name.ensures)
     c.window-in-Coarse.result c.in-Coarse.var c.in-Coarse.layers c.ratio_of.result c.divided.result c.in-Coarse.is c.ratio_of.ensures c.divided.ensures.divided
     c.window-in-Coarse.ensures t
@@ -53,7 +53,7 @@ returns-in-Coarse c = λ t l own at.
 pub returns-in-Fine : goal.returns-in-Fine
 returns-in-Fine c = λ t l own at.
     let here : c.level_at-l.result.now ≡ l = (let is = c.level_at-l.ensures in cc) in
-    fine_together c.spans_meet_in_indexes.ensures c.args.p.now c.requires.form c.requires.faultless c.args.from l at c.box_line-in-Fine.result
-    (subst (λ (m : Level). m.boxes ≡ c.box_line-in-Fine.result ∷ []) here c.box_line-in-Fine.ensures.line) own
+    fine_together c.spans_meet_in_indexes.ensures c.args.p.now c.requires.form c.requires.faultless c.args.from l at c.level_box-in-Fine.result
+    (subst (λ (m : Level). m.boxes ≡ c.level_box-in-Fine.result ∷ []) here c.level_box-in-Fine.ensures.only) own
     (length c.args.p.now.names) c.args.what c.requires.what c.centring_of-c.result (c.centring_of-c.ensures ∙ ap (centring_of c.args.p.now) c.wanted_name.ensures)
     c.refined.result c.in-Fine.var c.ratio_of-in-Fine.result c.in-Fine.is c.ratio_of-in-Fine.ensures c.refined.ensures.refined t
