@@ -1,6 +1,7 @@
 -- A level of two patches is tiled.
-use Rattle.std.proofs.Common.{◌≡◌, ◌∙◌, ◌<◌, ◌≤◌, ◌⊎◌, inl, inr, ℕ, zero, suc, ℤ, pos, true, false, List, [], ◌∷◌, length, ap, refl, sym, subst, arith}
-use Rattle.std.specs.Prelude.{IsTrue, Any, All, AllPairs, int_lt}
+use Rattle.std.proofs.Common.{◌≡◌, ◌∙◌, ◌<◌, ◌≤◌, ◌⊎◌, inl, inr, ℕ, zero, suc, ℤ, pos, Bool, true, false, List, [], ◌∷◌, length, map, ap, refl, sym, subst, arith}
+use Rattle.std.specs.Prelude.{◌||◌, IsTrue, Any, All, AllPairs, int_lt}
+use Rattle.std.specs.List.{list_any}
 use Rattle.std.proofs.lemmas.Bool.{cases_Bool}
 use Rattle.std.proofs.lemmas.Int.{ints}
 use Rattle.std.proofs.lemmas.List.Elements.{All-cons, All-nil, All-same}
@@ -8,10 +9,10 @@ use Rattle.uts_geom.specs.Spans.{is_between, is_inside}
 use Rattle.uts_geom.specs.declared.centring.Centring.TheVariants.{Cell}
 use Rattle.uts_geom.specs.declared.index.Index.{Index}
 use Rattle.problem_types.specs.Levels.{IsProper, IsTiled, LiesIn, AreApart, HasNearBounds, KeepsGridLimits, cells_of}
+use Rattle.problem_types.specs.Regions.{space_of}
 use Rattle.problem_types.specs.declared.problem.BoxLine.{BoxLine}
 use Rattle.problem_types.specs.declared.problem.Level.{Level}
 use Rattle.patch_regions.proofs.Meeting.{axes_of, inside}
-use Rattle.patch_regions.proofs.Tiling.{on_one}
 
 abbrev along_x : ℕ → ℕ → ℕ → BoxLine
 along_x line from to = record { line = line; lo = from ∷ 0 ∷ 0 ∷ []; hi = to ∷ 1 ∷ 1 ∷ [] }
@@ -75,6 +76,14 @@ all_of_one P xs q is holds = All-same P xs (q ∷ []) is (All-cons P q [] holds 
 all_of_two : (P : BoxLine → Type 0) (xs : List BoxLine) (q r : BoxLine) → xs ≡ q ∷ r ∷ [] → P q → P r → All P xs
 all_of_two P xs q r is first second = All-same P xs (q ∷ r ∷ []) is (All-cons P q (r ∷ []) first (All-cons P r [] second (All-nil P)))
 
+or_false : (t : Bool) → (t || false) ≡ t
+or_false true = refl
+or_false false = refl
+
+-- the index space of a level of one box
+on_one : (bs : List BoxLine) (b : BoxLine) (i : Index) → bs ≡ b ∷ [] → list_any (λ s. is_inside s i) (map (space_of Cell) bs) ≡ is_inside (space_of Cell b) i
+on_one bs b i same = ap (λ (xs : List BoxLine). list_any (λ s. is_inside s i) (map (space_of Cell) xs)) same ∙ or_false (is_inside (space_of Cell b) i)
+
 pub halves_tiled : (l : Level) → l.boxes ≡ along_x 2 0 4 ∷ [] → l.patches ≡ along_x 3 0 2 ∷ along_x 4 2 4 ∷ [] → IsTiled l
 halves_tiled l box patches =
     let In : BoxLine → Type 0 = λ q. Any (λ b. LiesIn (cells_of q) (cells_of b)) l.boxes in
@@ -87,7 +96,7 @@ halves_tiled l box patches =
           (lies_in (along_x 3 0 2) (lies 3 2 0 2 4 (omega arith))) (lies_in (along_x 4 2 4) (lies 4 2 2 4 4 (omega arith)));
       apart = subst (λ (qs : List BoxLine). AllPairs (λ q r. AreApart (cells_of q) (cells_of r)) qs) (sym patches) pairs_apart;
       filled = λ i on. subst (λ (qs : List BoxLine). Any (λ q. IsTrue (is_inside (cells_of q) i)) qs) (sym patches)
-          (filled i (sym (on_one Cell l.boxes (along_x 2 0 4) i box) ∙ on));
+          (filled i (sym (on_one l.boxes (along_x 2 0 4) i box) ∙ on));
     }
 
 pub halves_limits : (l : Level) → l.boxes ≡ along_x 2 0 4 ∷ [] → l.patches ≡ along_x 3 0 2 ∷ along_x 4 2 4 ∷ [] → KeepsGridLimits l

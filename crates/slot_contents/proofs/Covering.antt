@@ -23,6 +23,7 @@ use Rattle.problem_types.specs.declared.problem.Var.{Var}
 use Rattle.problem_types.specs.declared.problem.Write.{Write}
 use Rattle.problem_types.specs.declared.problem.WriteKind.{WriteKind}
 use Rattle.problem_types.specs.declared.problem.WriteKind.TheVariants as write
+use Rattle.patch_regions.specs.OnGrid.{one_box_apart}
 use Rattle.patch_regions.specs.Laws.{OwnedSpansTile, SpansMeetInIndexes}
 use Rattle.patch_regions.specs.Regions.{do_meet, owned_span}
 use Rattle.task_rules.specs.Lines.{wanted_level, wanted_name}
@@ -57,7 +58,7 @@ owner p level c i limits tile within = by_level (slice_get p.levels level) refl 
     by_level None at inside = absurd cc
     by_level (Some l) at inside =
         let bounded = limits.levels level l at in
-        let owns = (tile l c i bounded.good.tiled bounded.limits.one_box).0.0 inside in
+        let owns = (tile l c i bounded.good.tiled (one_box_apart c l bounded.limits.one_box)).0.0 inside in
         let below : owns.0 < length l.patches = owns.1.0 in
         record { l = l; level_at = at; patch = owns.0; patch_there = omega (arith, below, length-patches p level l at); owned = owns.1.1 }
 

@@ -3,12 +3,13 @@ use Rattle.std.proofs.Common.{◌≡◌, ◌∙◌, ℕ, List, Bool, true, Optio
 use Rattle.std.specs.Prelude.{slice_get, ◌==◌, ◌&&◌, find}
 use Rattle.std.specs.Option.{is_some, option_map_or}
 use Rattle.std.proofs.lemmas.Bool.{and_from, and_parts, eq-eqb}
+use Rattle.uts_geom.specs.Lists.{find_only}
 use Rattle.problem_types.specs.declared.problem.Task.{Task}
 use Rattle.problem_types.specs.declared.problem.Write.{Write}
 use Rattle.task_check.specs.LinesAt.{IsLineAt, is_line}
 use Rattle.task_check.specs.Plan.{is_line_of}
 use Rattle.slot_contents.specs.Contents.{name_at}
-use Rattle.slot_contents.proofs.Listed.{find_only, is_some-find, passing}
+use Rattle.slot_contents.proofs.Listed.{is_some-find, passing}
 
 module _ (tasks : List Task) (test : Write → Bool) (name : ℕ) where
   abbrev is_it : Write → Bool

@@ -66,14 +66,3 @@ is_some-find {A} test (x ∷ xs) = by_test (test x) (is_some-find test xs)
     by_test : (b : Bool) → is_some (find test xs) ≡ list_any test xs → is_some (cond b (Some x) (find test xs)) ≡ (b || list_any test xs)
     by_test true rest = refl
     by_test false rest = rest
-
--- the only one that passes is found
-pub find_only : {A : Type 0} (test : A → Bool) (xs : List A) (k : ℕ) (x : A) → slice_get xs k ≡ Some x → test x ≡ true →
-    ((j : ℕ) (y : A) → slice_get xs j ≡ Some y → test y ≡ true → j ≡ k) → find test xs ≡ Some x
-find_only test [] k x at passes only = absurd cc
-find_only {A} test (y ∷ ys) zero x at passes only =
-    let same : y ≡ x = cc in
-    ap (λ (b : Bool). cond b (Some y) (find test ys)) (ap test same ∙ passes) ∙ at
-find_only {A} test (y ∷ ys) (suc k) x at passes only =
-    ap (λ (b : Bool). cond b (Some y) (find test ys)) (false_from_ne_true (test y) (λ yes. let first = only 0 y refl yes in omega (arith, first)))
-    ∙ find_only test ys k x at passes (λ j z z_at z_passes. let same = only (suc j) z z_at z_passes in omega (arith, same))

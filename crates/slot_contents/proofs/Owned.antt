@@ -16,6 +16,7 @@ use Rattle.problem_types.specs.Regions.{indexes_of, is_in_space, space_of}
 use Rattle.problem_types.specs.declared.problem.BoxLine.{BoxLine}
 use Rattle.problem_types.specs.declared.problem.Level.{Level}
 use Rattle.problem_types.specs.declared.problem.Problem.{Problem}
+use Rattle.patch_regions.specs.OnGrid.{one_box_apart}
 use Rattle.patch_regions.specs.Laws.{OwnedSpansTile}
 use Rattle.patch_regions.specs.Regions.{owned_span}
 use Rattle.task_check.specs.Bounds.{IsBounded}
@@ -38,7 +39,7 @@ owned_in_space p level patch c i limits tile patch_there owned = by_level (slice
     by_level None at below inside = absurd (omega (arith, below))
     by_level (Some l) at below inside =
         let bounded = limits.levels level l at in
-        (tile l c i bounded.good.tiled bounded.limits.one_box).0.1 (patch, (omega (arith, below, length-counted 0 (length l.patches)), inside))
+        (tile l c i bounded.good.tiled (one_box_apart c l bounded.limits.one_box)).0.1 (patch, (omega (arith, below, length-counted 0 (length l.patches)), inside))
 
 module _ (holds : (s : Span) (i : Index) → Contains (indexes_of_span s) i ↔ IsTrue (is_inside s i)) (once : (s : Span) → AllPairs ◌≢◌ (indexes_of_span s)) (tile : OwnedSpansTile) (c : Centring) where
   module _ (l : Level) (tiled : IsTiled l) (one_box : length l.boxes ≡ 1) where
@@ -51,7 +52,7 @@ module _ (holds : (s : Span) (i : Index) → Contains (indexes_of_span s) i ↔ 
     once_owned : IsOnce owned_by_patch
     once_owned = IsOnce-flat_map (λ patch. indexes_of_span (owned_span c l patch)) (counted 0 (length l.patches)) (IsOnce-counted (length l.patches))
         (λ patch. IsOnce-from_pairs (indexes_of_span (owned_span c l patch)) (once (owned_span c l patch)))
-        (λ j k i j_there k_there in_j in_k. (tile l c i tiled one_box).1 j k
+        (λ j k i j_there k_there in_j in_k. (tile l c i tiled (one_box_apart c l one_box)).1 j k
         (of_counted (length l.patches) j j_there, (holds (owned_span c l j) i).0 in_j)
         (of_counted (length l.patches) k k_there, (holds (owned_span c l k) i).0 in_k))
 
@@ -66,14 +67,14 @@ module _ (holds : (s : Span) (i : Index) → Contains (indexes_of_span s) i ↔ 
     to_level : (i : Index) → Contains owned_by_patch i → Contains on_level i
     to_level i there =
         let patch = of_flat_map (λ patch. indexes_of_span (owned_span c l patch)) (counted 0 (length l.patches)) i there in
-        let within : is_on_level c l i ≡ true = (tile l c i tiled one_box).0.1 (patch.0, (of_counted (length l.patches) patch.0 patch.1, (holds (owned_span c l patch.0) i).0 patch.2)) in
+        let within : is_on_level c l i ≡ true = (tile l c i tiled (one_box_apart c l one_box)).0.1 (patch.0, (of_counted (length l.patches) patch.0 patch.1, (holds (owned_span c l patch.0) i).0 patch.2)) in
         let space = passing (λ s. is_inside s i) (spaces_on c l) within in
         in_flat_map indexes_of_span (spaces_on c l) space.item i (contains_at (spaces_on c l) space.place space.item space.at) ((holds space.item i).1 space.passes)
 
     to_patches : (i : Index) → Contains on_level i → Contains owned_by_patch i
     to_patches i there =
         let space = of_flat_map indexes_of_span (spaces_on c l) i there in
-        let owns = (tile l c i tiled one_box).0.0 (any_in (λ s. is_inside s i) (spaces_on c l) space.0 space.1 ((holds space.0 i).0 space.2)) in
+        let owns = (tile l c i tiled (one_box_apart c l one_box)).0.0 (any_in (λ s. is_inside s i) (spaces_on c l) space.0 space.1 ((holds space.0 i).0 space.2)) in
         in_flat_map (λ patch. indexes_of_span (owned_span c l patch)) (counted 0 (length l.patches)) owns.0 i (in_counted (length l.patches) owns.0 owns.1.0) ((holds (owned_span c l owns.0) i).1 owns.1.1)
 
     level_owned : IsPermutation owned_by_patch on_level

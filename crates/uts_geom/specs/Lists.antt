@@ -3,7 +3,7 @@ use Rattle.std.proofs.Common.{◌≡◌, ◌∙◌, ◌<◌, ◌≤◌, ◌+◌,
 use Rattle.std.specs.Prelude.{slice_get, All, Contains}
 use Rattle.std.specs.List.{list_any, find}
 use Rattle.std.specs.Option.{is_some, option_map_or}
-use Rattle.std.proofs.lemmas.Bool.{cases_lt}
+use Rattle.std.proofs.lemmas.Bool.{cases_lt, false_from_ne_true}
 use Rattle.std.proofs.lemmas.List.Folds.{Any-from_list_any, list_any_at}
 use Rattle.std.proofs.lemmas.Option.{slice_get_within, slice_get-get_or, get_or_from_slice_get}
 
@@ -63,6 +63,17 @@ pub at_place : {A : Type 0} (test : A → Bool) (xs : List A) → list_any test 
 at_place test xs some =
     let there = Any-from_list_any test xs some in
     (there.0, there.1, slice_get-get_or xs there.0 there.1 there.2 ∙ ap Some there.3, there.4)
+
+-- the only one that passes is found
+pub find_only : {A : Type 0} (test : A → Bool) (xs : List A) (k : ℕ) (x : A) → slice_get xs k ≡ Some x → test x ≡ true →
+    ((j : ℕ) (y : A) → slice_get xs j ≡ Some y → test y ≡ true → j ≡ k) → find test xs ≡ Some x
+find_only test [] k x at passes only = absurd cc
+find_only {A} test (y ∷ ys) zero x at passes only =
+    let same : y ≡ x = cc in
+    ap (λ (b : Bool). cond b (Some y) (find test ys)) (ap test same ∙ passes) ∙ at
+find_only {A} test (y ∷ ys) (suc k) x at passes only =
+    ap (λ (b : Bool). cond b (Some y) (find test ys)) (false_from_ne_true (test y) (λ yes. let first = only 0 y refl yes in omega (arith, first)))
+    ∙ find_only test ys k x at passes (λ j z z_at z_passes. let same = only (suc j) z z_at z_passes in omega (arith, same))
 
 pub of_option : {A : Type 0} (test : A → Bool) (o : Option A) → option_map_or test o false ≡ true → (x : A) × (o ≡ Some x) × (test x ≡ true)
 of_option test None holds = absurd cc
