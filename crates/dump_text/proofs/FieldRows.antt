@@ -9,9 +9,8 @@ use Rattle.std.specs.Option.{option_map_or}
 use Rattle.uts_geom.specs.Spans.{counted, rows_of}
 use Rattle.uts_geom.specs.declared.centring.Centring.{Centring}
 use Rattle.uts_geom.specs.declared.span.Span.{Span}
-use Rattle.problem_types.specs.Levels.{spaces_on}
 use Rattle.problem_types.specs.Lists.{task_list, computes, centring_of}
-use Rattle.problem_types.specs.Regions.{space_of, spaces_of}
+use Rattle.problem_types.specs.Regions.{space_of, spaces_of, spaces_on}
 use Rattle.problem_types.specs.declared.problem.Level.{Level}
 use Rattle.uts_model.specs.Dump.{Shown, Field, field_rows}
 use Rattle.dump_text.specs.Lines.{field_lines, flat_map-joined, line_of}

@@ -1,8 +1,8 @@
 //! Boxes and patches as spans. Coordinates of a level are at most 4,096.
 ghost use Rattle.std.specs.Prelude.{◌≡◌, ◌<◌, ◌≤◌, ◌∷◌, [], length, pos, slice_index};
 ghost use Rattle.uts_geom.specs.Spans.{index};
-ghost use Rattle.problem_types.specs.Levels.{HasNearBounds, KeepsGridLimits, cells_of, spaces_on};
-ghost use Rattle.problem_types.specs.Regions.{end_of};
+ghost use Rattle.problem_types.specs.Levels.{HasNearBounds, KeepsGridLimits, cells_of};
+ghost use Rattle.problem_types.specs.Regions.{end_of, spaces_on};
 ghost use Rattle.patch_regions.specs.Regions.{patch_at, reaching};
 
 use problem_types::{BoxLine, Level, level_box};

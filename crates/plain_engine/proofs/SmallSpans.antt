@@ -12,9 +12,9 @@ use Rattle.uts_geom.specs.declared.centring.Axis.TheVariants.{X}
 use Rattle.uts_geom.specs.declared.centring.Centring.{Centring}
 use Rattle.uts_geom.specs.declared.centring.Centring.TheVariants.{Node}
 use Rattle.uts_geom.specs.declared.span.Span.{Span}
-use Rattle.problem_types.specs.Levels.{HasNearBounds, KeepsGridLimits, spaces_on}
+use Rattle.problem_types.specs.Levels.{HasNearBounds, KeepsGridLimits}
 use Rattle.problem_types.specs.NearSpaces.{space_near}
-use Rattle.problem_types.specs.Regions.{end_of, space_of, spaces_of, indexes_of}
+use Rattle.problem_types.specs.Regions.{end_of, indexes_of, space_of, spaces_of, spaces_on}
 use Rattle.problem_types.specs.declared.problem.BoxLine.{BoxLine}
 use Rattle.problem_types.specs.declared.problem.Level.{Level}
 use Rattle.problem_types.specs.declared.problem.Problem.{Problem}

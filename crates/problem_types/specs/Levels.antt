@@ -1,12 +1,11 @@
 -- Levels of the grid: their boxes and patches as sets of cells.
-use Rattle.std.specs.Prelude.{◌≡◌, ℕ, ◌<◌, ◌≤◌, Bool, List, length, map, All, AllPairs, Any, IsTrue, slice_index}
-use Rattle.std.specs.List.{list_any}
+use Rattle.std.specs.Prelude.{◌≡◌, ℕ, ◌<◌, ◌≤◌, Bool, List, length, All, AllPairs, Any, IsTrue, slice_index}
 use Rattle.uts_geom.specs.Spans.{is_inside}
 use Rattle.uts_geom.specs.declared.index.Index.{Index}
 use Rattle.uts_geom.specs.declared.span.Span.{Span}
 use Rattle.uts_geom.specs.declared.centring.Centring.{Centring}
 use Rattle.uts_geom.specs.declared.centring.Centring.TheVariants.{Cell}
-use Rattle.problem_types.specs.Regions.{space_of}
+use Rattle.problem_types.specs.Regions.{is_in_spaces, space_of, spaces_on}
 use Rattle.problem_types.specs.declared.problem.BoxLine.{BoxLine}
 use Rattle.problem_types.specs.declared.problem.Level.{Level}
 
@@ -14,12 +13,9 @@ use Rattle.problem_types.specs.declared.problem.Level.{Level}
 abbrev pub cells_of : BoxLine → Span
 cells_of b = space_of Cell b
 
--- the index spaces of a level's boxes, and whether an index lies in one of them
-abbrev pub spaces_on : Centring → Level → List Span
-spaces_on c l = map (space_of c) l.boxes
-
+-- the index lies in the index space of the level
 abbrev pub is_on_level : Centring → Level → Index → Bool
-is_on_level c l i = list_any (λ s. is_inside s i) (spaces_on c l)
+is_on_level c l i = is_in_spaces (spaces_on c l) i
 
 -- low bounds below high bounds on each axis
 abbrev pub IsProper : BoxLine → Type 0

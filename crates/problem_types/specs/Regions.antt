@@ -11,6 +11,7 @@ use Rattle.uts_geom.specs.declared.centring.Axis.TheVariants.{X, Y, Z}
 use Rattle.uts_geom.specs.declared.centring.Centring.{Centring}
 use Rattle.problem_types.specs.declared.problem.Problem.{Problem}
 use Rattle.problem_types.specs.declared.problem.BoxLine.{BoxLine}
+use Rattle.problem_types.specs.declared.problem.Level.{Level}
 
 -- where an index space ends on an axis: a point-like one holds the high bound besides
 abbrev pub end_of : Bool → ℕ → ℤ
@@ -25,17 +26,28 @@ space_of c b = record {
       (end_of (is_point_like c Z) (slice_index b.hi 2));
 }
 
--- the index spaces of the boxes of a level, in the order of its lines
+-- the index spaces of a level's boxes, in the order of its lines
+abbrev pub spaces_on : Centring → Level → List Span
+spaces_on c l = map (space_of c) l.boxes
+
+-- the same by the level's number in a problem
 abbrev pub spaces_of : Problem → ℕ → Centring → List Span
-spaces_of p level c = option_map_or (λ l. map (space_of c) l.boxes) (slice_get p.levels level) []
+spaces_of p level c = option_map_or (spaces_on c) (slice_get p.levels level) []
 
--- the index lies in one of these spaces
+-- the index lies in one of the spaces
+abbrev pub is_in_spaces : List Span → Index → Bool
+is_in_spaces spaces i = list_any (λ s. is_inside s i) spaces
+
+-- all indexes of the spaces, in order
+abbrev pub indexes_in : List Span → List Index
+indexes_in spaces = flat_map indexes_of_span spaces
+
+-- whether an index lies in the index space of a problem's level, and all that do, in order
 abbrev pub is_in_space : Problem → ℕ → Centring → Index → Bool
-is_in_space p level c i = list_any (λ s. is_inside s i) (spaces_of p level c)
+is_in_space p level c i = is_in_spaces (spaces_of p level c) i
 
--- all indexes of these spaces, in order
 abbrev pub indexes_of : Problem → ℕ → Centring → List Index
-indexes_of p level c = flat_map indexes_of_span (spaces_of p level c)
+indexes_of p level c = indexes_in (spaces_of p level c)
 
 -- an index by an offset away
 abbrev pub moved : Index → Index → Index

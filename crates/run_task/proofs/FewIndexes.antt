@@ -14,8 +14,8 @@ use Rattle.uts_geom.specs.declared.centring.Centring.{Centring}
 use Rattle.uts_geom.specs.declared.index.Index.{Index}
 use Rattle.uts_geom.specs.declared.span.Span.{Span}
 use Rattle.uts_geom.specs.Places.{length-from_to}
-use Rattle.problem_types.specs.Levels.{IsProper, LiesIn, cells_of, spaces_on}
-use Rattle.problem_types.specs.Regions.{end_of, space_of}
+use Rattle.problem_types.specs.Levels.{IsProper, LiesIn, cells_of}
+use Rattle.problem_types.specs.Regions.{end_of, space_of, spaces_on}
 use Rattle.problem_types.specs.declared.problem.BoxLine.{BoxLine}
 use Rattle.problem_types.specs.declared.problem.Level.{Level}
 use Rattle.problem_types.specs.declared.problem.Problem.{Problem}

@@ -7,8 +7,7 @@ use Rattle.std.proofs.lemmas.Option.{slice_get_within}
 use Rattle.uts_geom.specs.Spans.{IsNearSpan, indexes_of, width_of}
 use Rattle.uts_geom.specs.declared.centring.Centring.{Centring}
 use Rattle.uts_geom.specs.declared.span.Span.{Span}
-use Rattle.problem_types.specs.Levels.{spaces_on}
-use Rattle.problem_types.specs.Regions.{space_of, spaces_of}
+use Rattle.problem_types.specs.Regions.{space_of, spaces_of, spaces_on}
 use Rattle.problem_types.specs.declared.problem.Level.{Level}
 use Rattle.problem_types.specs.declared.problem.Problem.{Problem}
 use Rattle.problem_types.specs.declared.problem.Require.{Require}

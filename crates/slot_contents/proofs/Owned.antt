@@ -11,8 +11,8 @@ use Rattle.uts_geom.specs.declared.centring.Centring.{Centring}
 use Rattle.uts_geom.specs.declared.index.Index.{Index}
 use Rattle.uts_geom.specs.declared.span.Span.{Span}
 use Rattle.uts_geom.specs.Lists.{contains_at}
-use Rattle.problem_types.specs.Levels.{IsTiled, is_on_level, spaces_on}
-use Rattle.problem_types.specs.Regions.{indexes_of, is_in_space, space_of}
+use Rattle.problem_types.specs.Levels.{IsTiled, is_on_level}
+use Rattle.problem_types.specs.Regions.{indexes_of, is_in_space, space_of, spaces_on}
 use Rattle.problem_types.specs.declared.problem.BoxLine.{BoxLine}
 use Rattle.problem_types.specs.declared.problem.Level.{Level}
 use Rattle.problem_types.specs.declared.problem.Problem.{Problem}

@@ -13,9 +13,9 @@ use Rattle.std.proofs.lemmas.List.Sums.{sum_by-cons}
 use Rattle.uts_geom.specs.declared.span.Span.{Span}
 use Rattle.uts_geom.specs.Spans.{counted, is_between, is_inside, indexes_of, width_of, height_of, depth_of, IsNearNumber, IsNearSpan, meet_of}
 use Rattle.problem_types.specs.Form.{IsProblemInForm}
-use Rattle.problem_types.specs.Levels.{spaces_on, HasNearBounds, KeepsGridLimits}
+use Rattle.problem_types.specs.Levels.{HasNearBounds, KeepsGridLimits}
 use Rattle.problem_types.specs.Lists.{task_list, is_reduces, centring_of}
-use Rattle.problem_types.specs.Regions.{space_of}
+use Rattle.problem_types.specs.Regions.{space_of, spaces_on}
 use Rattle.problem_types.specs.declared.problem.Problem.{Problem}
 use Rattle.problem_types.specs.declared.problem.BoxLine.{BoxLine}
 use Rattle.problem_types.specs.declared.problem.Level.{Level}

@@ -8,7 +8,8 @@ use Rattle.uts_geom.specs.declared.index.Index.{Index}
 use Rattle.uts_geom.specs.declared.span.Span.{Span}
 use Rattle.uts_geom.specs.declared.centring.Centring.TheVariants.{Cell}
 use Rattle.uts_geom.specs.Spans.{is_inside, indexes_of}
-use Rattle.problem_types.specs.Levels.{cells_of, spaces_on, is_on_level, IsProper, LiesIn, AreApart, IsTiled, HasNearBounds}
+use Rattle.problem_types.specs.Levels.{cells_of, is_on_level, IsProper, LiesIn, AreApart, IsTiled, HasNearBounds}
+use Rattle.problem_types.specs.Regions.{spaces_on}
 use Rattle.problem_types.specs.declared.problem.BoxLine.{BoxLine}
 use Rattle.problem_types.specs.declared.problem.Level.{Level}
 use Rattle.problem_types.specs.declared.problem.Problem.{Problem}

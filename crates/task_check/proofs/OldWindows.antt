@@ -17,9 +17,9 @@ use Rattle.uts_geom.specs.declared.centring.Centring.{Centring}
 use Rattle.uts_geom.specs.declared.centring.Centring.TheVariants.{Cell}
 use Rattle.uts_geom.specs.declared.span.Span.{Span}
 use Rattle.problem_types.specs.Form.{IsProblemInForm, IsLayerNumber, AreLayersInForm, IsWhatInForm}
-use Rattle.problem_types.specs.Levels.{cells_of, spaces_on, HasNearBounds, KeepsGridLimits}
+use Rattle.problem_types.specs.Levels.{cells_of, HasNearBounds, KeepsGridLimits}
 use Rattle.problem_types.specs.Lists.{centring_of}
-use Rattle.problem_types.specs.Regions.{ratio_of, space_of}
+use Rattle.problem_types.specs.Regions.{ratio_of, space_of, spaces_on}
 use Rattle.problem_types.specs.declared.problem.Problem.{Problem}
 use Rattle.problem_types.specs.declared.problem.BoxLine.{BoxLine}
 use Rattle.problem_types.specs.declared.problem.Level.{Level}

@@ -11,8 +11,8 @@ use Rattle.uts_geom.specs.Spans.{is_between, is_inside, indexes_of, IsNear}
 use Rattle.uts_geom.specs.declared.centring.Centring.{Centring}
 use Rattle.uts_geom.specs.declared.index.Index.{Index}
 use Rattle.uts_geom.specs.declared.span.Span.{Span}
-use Rattle.problem_types.specs.Levels.{HasNearBounds, spaces_on}
-use Rattle.problem_types.specs.Regions.{space_of, spaces_of, is_in_space, indexes_of as indexes_on, ratio_of}
+use Rattle.problem_types.specs.Levels.{HasNearBounds}
+use Rattle.problem_types.specs.Regions.{indexes_of as indexes_on, is_in_space, ratio_of, space_of, spaces_of, spaces_on}
 use Rattle.problem_types.specs.declared.problem.BoxLine.{BoxLine}
 use Rattle.problem_types.specs.declared.problem.Level.{Level}
 use Rattle.problem_types.specs.declared.problem.Problem.{Problem}

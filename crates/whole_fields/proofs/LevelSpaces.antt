@@ -10,8 +10,8 @@ use Rattle.uts_geom.specs.Spans.{is_inside, indexes_of, row_indexes, IsNearNumbe
 use Rattle.uts_geom.specs.declared.centring.Centring.{Centring}
 use Rattle.uts_geom.specs.declared.index.Index.{Index}
 use Rattle.uts_geom.specs.declared.span.Span.{Span}
-use Rattle.problem_types.specs.Levels.{HasNearBounds, KeepsGridLimits, spaces_on}
-use Rattle.problem_types.specs.Regions.{end_of, space_of, spaces_of, is_in_space, indexes_of as indexes_on_level}
+use Rattle.problem_types.specs.Levels.{HasNearBounds, KeepsGridLimits}
+use Rattle.problem_types.specs.Regions.{end_of, indexes_of as indexes_on_level, is_in_space, space_of, spaces_of, spaces_on}
 use Rattle.problem_types.specs.NearSpaces.{level_near}
 use Rattle.problem_types.specs.declared.problem.BoxLine.{BoxLine}
 use Rattle.problem_types.specs.declared.problem.Level.{Level}

@@ -3,7 +3,8 @@ ghost use Rattle.std.specs.Prelude.{◌≡◌, ◌≤◌, ◌<◌, ◌*◌, ◌�
 ghost use Rattle.std.specs.List.{list_any, sum_by};
 ghost use Rattle.uts_geom.specs.Spans.{indexes_of, meet_of};
 ghost use Rattle.problem_types.specs.Form.{IsProblemInForm};
-ghost use Rattle.problem_types.specs.Levels.{KeepsGridLimits, spaces_on};
+ghost use Rattle.problem_types.specs.Levels.{KeepsGridLimits};
+ghost use Rattle.problem_types.specs.Regions.{spaces_on};
 ghost use Rattle.problem_types.specs.Lists.{task_list};
 ghost use Rattle.task_rules.specs.Lines.{wanted_level};
 ghost use Rattle.task_check.specs.Counts.{gathered, gathered_for};

@@ -4,7 +4,7 @@ use Rattle.std.specs.List.{sum_by}
 use Rattle.uts_geom.specs.Spans.{indexes_of, meet_of}
 use Rattle.uts_geom.specs.declared.centring.Centring.{Centring}
 use Rattle.uts_geom.specs.Lists.{placed}
-use Rattle.problem_types.specs.Levels.{spaces_on}
+use Rattle.problem_types.specs.Regions.{spaces_on}
 use Rattle.problem_types.specs.Lists.{centring_of}
 use Rattle.task_rules.specs.Lines.{wanted_level, wanted_name}
 use Rattle.task_check.proofs.Accepted.{few_levels, keeps_grid_limits}

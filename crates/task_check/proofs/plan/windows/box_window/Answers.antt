@@ -1,7 +1,8 @@
 use Rattle.std.proofs.Common.{◌≡◌, ◌∙◌, ◌+◌, ◌∷◌, [], length, ap, subst}
 use Rattle.uts_geom.specs.Spans.{IsNearSpan}
 use Rattle.uts_geom.specs.declared.centring.Centring.TheVariants.{Cell}
-use Rattle.problem_types.specs.Levels.{spaces_on, KeepsGridLimits}
+use Rattle.problem_types.specs.Levels.{KeepsGridLimits}
+use Rattle.problem_types.specs.Regions.{spaces_on}
 use Rattle.problem_types.specs.Lists.{centring_of}
 use Rattle.problem_types.specs.declared.problem.Level.{Level}
 use Rattle.task_check.proofs.Accepted.{keeps_grid_limits}
