@@ -5,3 +5,4 @@ pub mod Shown
 pub mod FieldRows
 pub mod Counted
 pub mod KeptNames
+pub mod WholeRun

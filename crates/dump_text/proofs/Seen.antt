@@ -16,7 +16,7 @@ use Rattle.dump_text.specs.Lines.{Line, bytes_of, first_bytes, line_of, plain_li
 use Rattle.dump_text.specs.Showing.{HasSeenSome, Notes, Sees}
 
 -- after some rows, and then others
-after_both : (a b : List Row) (m : Meaning) → after_rows b (after_rows a m) ≡ after_rows (a ++ b) m
+pub after_both : (a b : List Row) (m : Meaning) → after_rows b (after_rows a m) ≡ after_rows (a ++ b) m
 after_both a b m = ap (λ s. record m { state = s }) (sym (fold-append m.next m.state a b))
 
 -- after the rows of some lines, and then of others
@@ -38,7 +38,7 @@ more_lines [] more grew = prefix_of_more (first_bytes more) grew
 more_lines (l ∷ lines) more grew = grew
 
 -- a list without rows leaves the probes as they are
-none_after : (ms : List Meaning) → ms ≡ map (after_rows []) ms
+pub none_after : (ms : List Meaning) → ms ≡ map (after_rows []) ms
 none_after [] = refl
 none_after (m ∷ ms) = ap (λ t. m ∷ t) (none_after ms)
 

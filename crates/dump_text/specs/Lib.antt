@@ -6,3 +6,4 @@ pub mod Keeps
 pub mod Lines
 pub mod Fields
 pub mod Showing
+pub mod Laws

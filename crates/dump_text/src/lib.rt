@@ -6,6 +6,7 @@ mod ends;
 mod fault;
 mod field;
 mod keep;
+mod laws;
 mod lines;
 mod noting;
 mod place;
@@ -14,6 +15,7 @@ mod step;
 
 pub use ends::{dump_begin, dump_end};
 pub use fault::RunFault;
+pub use laws::probes_see_the_dump;
 pub use probes::NoMemory;
 pub use rows::Rows;
 pub use step::dump_step;
