@@ -3,7 +3,7 @@ use Rattle.std.proofs.Common.{◌≡◌, ◌∙◌, ◌<◌, ℕ, List, [], fals
 use Rattle.std.specs.Prelude.{slice_get, slice_index_or}
 use Rattle.std.specs.Option.{option_map_or}
 use Rattle.std.proofs.lemmas.List.Elements.{filter_agree}
-use Rattle.uts_geom.specs.Spans.{counted}
+use Rattle.uts_geom.specs.Spans.{counted, do_meet}
 use Rattle.uts_geom.specs.declared.centring.Centring.{Centring}
 use Rattle.uts_geom.specs.declared.span.Span.{Span}
 use Rattle.uts_geom.specs.Lists.{all_at}
@@ -12,7 +12,7 @@ use Rattle.problem_types.specs.declared.problem.Problem.{Problem}
 use Rattle.problem_types.specs.declared.problem.Level.{Level}
 use Rattle.problem_types.specs.declared.problem.Task.{Task}
 use Rattle.problem_types.specs.declared.problem.Require.{Require}
-use Rattle.patch_regions.specs.Regions.{do_meet, owned_span, touching_patches}
+use Rattle.patch_regions.specs.Regions.{owned_span, touching_patches}
 use Rattle.task_rules.specs.Lines.{wanted_level, wanted_name}
 use Rattle.task_check.specs.Plan.{is_in_window, patches_of, wanted_window}
 use Rattle.task_check.specs.Reached.{IsReachedBy}

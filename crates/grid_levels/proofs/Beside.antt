@@ -3,25 +3,11 @@ use Rattle.std.proofs.Common.{◌≡◌, ◌∙◌, ℤ, pos, ◌≤ℤ◌, Bool
 use Rattle.std.specs.Prelude.{◌&&◌, ◌-ℤ◌, ◌↔◌, not, IsTrue}
 use Rattle.std.proofs.lemmas.Bool.{and_parts, and_from, false≢true}
 use Rattle.std.proofs.lemmas.Int.{ints}
-use Rattle.uts_geom.specs.declared.index.Index.{Index}
 use Rattle.uts_geom.specs.declared.span.Span.{Span}
-use Rattle.uts_geom.specs.Spans.{index, is_between, is_inside}
+use Rattle.uts_geom.specs.Axes.{by_axes, inside_from_axes}
+use Rattle.uts_geom.specs.Laws.{SpansMeetInIndexes}
+use Rattle.uts_geom.specs.Spans.{index, is_between, is_inside, do_meet}
 use Rattle.problem_types.specs.Levels.{LiesIn, AreApart}
-
--- an index of a span, axis by axis
-pub record IsAt (s : Span) (i : Index) : Type 0 where
-  pub x : is_between s.lo.x s.hi.x i.x ≡ true
-  pub y : is_between s.lo.y s.hi.y i.y ≡ true
-  pub z : is_between s.lo.z s.hi.z i.z ≡ true
-
-pub by_axes : (s : Span) (i : Index) → is_inside s i ≡ true → IsAt s i
-by_axes s i inside =
-    let on_x = and_parts (is_between s.lo.x s.hi.x i.x) (is_between s.lo.y s.hi.y i.y && is_between s.lo.z s.hi.z i.z) inside in
-    let on_y = and_parts (is_between s.lo.y s.hi.y i.y) (is_between s.lo.z s.hi.z i.z) on_x.1 in
-    record { x = on_x.0; y = on_y.0; z = on_y.1 }
-
-pub inside_from_axes : (s : Span) (i : Index) → IsAt s i → is_inside s i ≡ true
-inside_from_axes s i at = and_from _ _ at.x (and_from _ _ at.y at.z)
 
 between_wider : (low high from to n : ℤ) → from ≤ℤ low → high ≤ℤ to → is_between low high n ≡ true → is_between from to n ≡ true
 between_wider low high from to n a b h = grind (arith, ints)
@@ -37,16 +23,6 @@ low_within from to low h = grind (arith, ints)
 
 high_within : (from to high : ℤ) → is_between from to (high -ℤ pos 1) ≡ true → high ≤ℤ to
 high_within from to high h = grind (arith, ints)
-
--- a span that has an index has its low corner
-pub has_low_corner : (s : Span) (i : Index) → is_inside s i ≡ true → is_inside s s.lo ≡ true
-has_low_corner s i inside =
-    let at = by_axes s i inside in
-    inside_from_axes s s.lo (record {
-      x = between_low s.lo.x s.hi.x i.x at.x;
-      y = between_low s.lo.y s.hi.y i.y at.y;
-      z = between_low s.lo.z s.hi.z i.z at.z;
-    })
 
 -- the corners of one span lie in the other
 pub record LiesByCorners (inner outer : Span) : Type 0 where
@@ -79,23 +55,10 @@ corners_from_lies inner outer some lies =
       z = (low_within outer.lo.z outer.hi.z inner.lo.z low.z, high_within outer.lo.z outer.hi.z inner.hi.z high.z);
     }
 
-clash : (r : Bool) → r ≡ true → IsTrue (not r) → ⊥
-clash true yes' none = absurd (false≢true none)
-clash false yes' none = absurd (false≢true yes')
-
-not_where_none : (r : Bool) → (r ≡ true → ⊥) → IsTrue (not r)
-not_where_none true none = absurd (none refl)
-not_where_none false none = refl
-
--- spans are apart exactly where what they have in common lacks its low corner
-pub apart_by_corner : (a b common : Span) (r : Bool) → ((i : Index) → is_inside common i ≡ (is_inside a i && is_inside b i)) → r ≡ is_inside common common.lo →
-    IsTrue (not r) ↔ AreApart a b
-apart_by_corner a b common r both is = (
-  λ none i in_a in_b. clash r (is ∙ has_low_corner common i (both i ∙ and_from (is_inside a i) (is_inside b i) in_a in_b)) none,
-  λ apart. not_where_none r (λ some.
-      let parts = and_parts (is_inside a common.lo) (is_inside b common.lo) (sym (both common.lo) ∙ sym is ∙ some) in
-      apart common.lo parts.0 parts.1),
-)
+-- spans are apart exactly where they do not meet
+pub apart_unless_met : SpansMeetInIndexes → (a b : Span) (r : Bool) → r ≡ do_meet a b → IsTrue (not r) ↔ AreApart a b
+apart_unless_met meets a b true is = (λ none. absurd (false≢true none), λ apart. let (i, in_a, in_b) = (meets a b).0 (sym is) in absurd (apart i in_a in_b))
+apart_unless_met meets a b false is = (λ none i in_a in_b. false≢true (is ∙ (meets a b).1 (i, in_a, in_b)), λ apart. refl)
 
 -- the tests of the three axes decide
 pub lies_decided : (inner outer : Span) (x y z r : Bool) → is_inside inner inner.lo ≡ true →

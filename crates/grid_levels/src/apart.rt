@@ -2,9 +2,8 @@
 ghost use Rattle.std.specs.Prelude.{◌↔◌, IsTrue, All, AllPairs};
 ghost use Rattle.problem_types.specs.Levels.{HasNearBounds, AreApart, cells_of};
 
-use crate::boxes::cells;
 use crate::spans::are_apart;
-use problem_types::BoxLine;
+use problem_types::{BoxLine, cells};
 
 /// Whether a patch shares no cell with one of the others.
 fn is_apart_from_each(others: &[BoxLine], patch: BoxLine) -> bool

@@ -5,7 +5,7 @@ ghost use Rattle.problem_types.specs.Levels.{HasNearBounds, IsProper, LiesIn, ce
 ghost use Rattle.grid_levels.specs.Good.{divided};
 
 use crate::spans::lies_in;
-use problem_types::BoxLine;
+use problem_types::{BoxLine, cells};
 use uts_geom::{Index, Span};
 
 /// The cells of a box, its bounds divided by a ratio, rounded down.
@@ -25,26 +25,6 @@ pub fn divided(b: BoxLine, ratio: u64) -> Span
             x: (b.hi[0] / ratio) as i64,
             y: (b.hi[1] / ratio) as i64,
             z: (b.hi[2] / ratio) as i64,
-        },
-    }
-}
-
-/// The cells of a box or of a patch.
-pub(crate) fn cells(b: BoxLine) -> Span
-    requires { HasNearBounds b }
-    ensures cells { result ≡ cells_of b }
-    ensures near { IsNearSpan result }
-{
-    Span {
-        lo: Index {
-            x: b.lo[0] as i64,
-            y: b.lo[1] as i64,
-            z: b.lo[2] as i64,
-        },
-        hi: Index {
-            x: b.hi[0] as i64,
-            y: b.hi[1] as i64,
-            z: b.hi[2] as i64,
         },
     }
 }

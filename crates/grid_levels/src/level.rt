@@ -3,11 +3,11 @@ ghost use Rattle.std.specs.Prelude.{◌≡◌, ◌-◌, ◌<◌, ◌⊎◌, ◌�
 ghost use Rattle.problem_types.specs.Levels.{IsTiled, KeepsGridLimits};
 ghost use Rattle.grid_levels.specs.Good.{AreMultiples, IsNested, IsGood, IsGoodLevel, HasGoodRatio, IsWithinLimits};
 
-use crate::boxes::{cells, divided};
+use crate::boxes::divided;
 use crate::multiples::are_multiples;
 use crate::spans::lies_in;
 use crate::tiling::is_tiled;
-use problem_types::{Level, Problem, level_box};
+use problem_types::{Level, Problem, cells, level_box};
 
 /// A level breaks a rule. The line is that of the level's statement.
 #[derive(Clone, Copy, Debug, PartialEq, Eq)]

@@ -3,7 +3,7 @@ ghost use Rattle.std.specs.Prelude.{◌≤ℤ◌, ◌↔◌, IsTrue};
 ghost use Rattle.uts_geom.specs.Spans.{is_inside};
 ghost use Rattle.problem_types.specs.Levels.{LiesIn, AreApart};
 
-use uts_geom::{Span, contains, meet};
+use uts_geom::{Span, do_meet, spans_meet_in_indexes};
 
 /// Whether the numbers `low` and `high` lie from `from` up to `to`.
 fn is_within(low: i64, high: i64, from: i64, to: i64) -> bool
@@ -23,10 +23,10 @@ pub(crate) fn lies_in(inner: Span, outer: Span) -> bool
     x && y && z
 }
 
-/// Whether the spans have no index in common. A span that has one has its low corner.
+/// Whether the spans have no index in common.
 pub(crate) fn are_apart(a: Span, b: Span) -> bool
     ensures { IsTrue result ↔ AreApart a b }
 {
-    let common = meet(a, b);
-    !contains(common, common.lo)
+    spans_meet_in_indexes();
+    !do_meet(a, b)
 }

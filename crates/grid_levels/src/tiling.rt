@@ -6,8 +6,8 @@ ghost use Rattle.uts_geom.specs.declared.index.Index.{Index};
 ghost use Rattle.problem_types.specs.Levels.{HasNearBounds, IsProper, LiesIn, AreApart, IsTiled, KeepsGridLimits, cells_of};
 
 use crate::apart::are_all_apart;
-use crate::boxes::{are_proper, cells, lie_in};
-use problem_types::{BoxLine, Level, level_box};
+use crate::boxes::{are_proper, lie_in};
+use problem_types::{BoxLine, Level, cells, level_box};
 use uts_geom::{indexes_stand_once, spans_hold_their_indexes, volume};
 
 /// How many cells the patches have together.

@@ -12,7 +12,7 @@ use Rattle.problem_types.specs.Levels.{IsProper, IsTiled, LiesIn, AreApart, HasN
 use Rattle.problem_types.specs.Regions.{space_of}
 use Rattle.problem_types.specs.declared.problem.BoxLine.{BoxLine}
 use Rattle.problem_types.specs.declared.problem.Level.{Level}
-use Rattle.patch_regions.proofs.Meeting.{axes_of, inside}
+use Rattle.uts_geom.specs.Axes.{by_axes, inside_from_axes}
 
 abbrev along_x : ℕ → ℕ → ℕ → BoxLine
 along_x line from to = record { line = line; lo = from ∷ 0 ∷ 0 ∷ []; hi = to ∷ 1 ∷ 1 ∷ [] }
@@ -31,14 +31,14 @@ near line from to low high (suc (suc (suc axis))) below = absurd (omega arith)
 
 lies : (line other from to high : ℕ) → to ≤ high → LiesIn (cells_of (along_x line from to)) (cells_of (along_x other 0 high))
 lies line other from to high below i of =
-    let at = axes_of (cells_of (along_x line from to)) i of in
+    let at = by_axes (cells_of (along_x line from to)) i of in
     let on_x = at.x in
-    inside (cells_of (along_x other 0 high)) i (record { x = grind (arith, ints); y = at.y; z = at.z })
+    inside_from_axes (cells_of (along_x other 0 high)) i (record { x = grind (arith, ints); y = at.y; z = at.z })
 
 apart : AreApart (cells_of (along_x 3 0 2)) (cells_of (along_x 4 2 4))
 apart i first second =
-    let left = (axes_of (cells_of (along_x 3 0 2)) i first).x in
-    let right = (axes_of (cells_of (along_x 4 2 4)) i second).x in
+    let left = (by_axes (cells_of (along_x 3 0 2)) i first).x in
+    let right = (by_axes (cells_of (along_x 4 2 4)) i second).x in
     clash i.x left right
   where
     clash : (n : ℤ) → is_between (pos 0) (pos 2) n ≡ true → is_between (pos 2) (pos 4) n ≡ true → ⊥
@@ -53,7 +53,7 @@ pairs_apart i (suc (suc j)) d before below = absurd (omega arith)
 
 filled : (i : Index) → is_inside (cells_of (along_x 2 0 4)) i ≡ true →
     Any (λ q. IsTrue (is_inside (cells_of q) i)) (along_x 3 0 2 ∷ along_x 4 2 4 ∷ [])
-filled i on = by_half (cases_Bool (int_lt i.x (pos 2))) (axes_of (cells_of (along_x 2 0 4)) i on).x
+filled i on = by_half (cases_Bool (int_lt i.x (pos 2))) (by_axes (cells_of (along_x 2 0 4)) i on).x
   where
     lower : (n : ℤ) → int_lt n (pos 2) ≡ true → is_between (pos 0) (pos 4) n ≡ true → is_between (pos 0) (pos 2) n ≡ true
     lower n less on_x = grind (arith, ints)
@@ -64,11 +64,11 @@ filled i on = by_half (cases_Bool (int_lt i.x (pos 2))) (axes_of (cells_of (alon
     by_half : (int_lt i.x (pos 2) ≡ true) ⊎ (int_lt i.x (pos 2) ≡ false) → is_between (pos 0) (pos 4) i.x ≡ true →
         Any (λ q. IsTrue (is_inside (cells_of q) i)) (along_x 3 0 2 ∷ along_x 4 2 4 ∷ [])
     by_half (inl less) on_x =
-        let at = axes_of (cells_of (along_x 2 0 4)) i on in
-        (0, along_x 3 0 2, omega arith, refl, inside (cells_of (along_x 3 0 2)) i (record { x = lower i.x less on_x; y = at.y; z = at.z }))
+        let at = by_axes (cells_of (along_x 2 0 4)) i on in
+        (0, along_x 3 0 2, omega arith, refl, inside_from_axes (cells_of (along_x 3 0 2)) i (record { x = lower i.x less on_x; y = at.y; z = at.z }))
     by_half (inr more) on_x =
-        let at = axes_of (cells_of (along_x 2 0 4)) i on in
-        (1, along_x 4 2 4, omega arith, refl, inside (cells_of (along_x 4 2 4)) i (record { x = upper i.x more on_x; y = at.y; z = at.z }))
+        let at = by_axes (cells_of (along_x 2 0 4)) i on in
+        (1, along_x 4 2 4, omega arith, refl, inside_from_axes (cells_of (along_x 4 2 4)) i (record { x = upper i.x more on_x; y = at.y; z = at.z }))
 
 all_of_one : (P : BoxLine → Type 0) (xs : List BoxLine) (q : BoxLine) → xs ≡ q ∷ [] → P q → All P xs
 all_of_one P xs q is holds = All-same P xs (q ∷ []) is (All-cons P q [] holds (All-nil P))

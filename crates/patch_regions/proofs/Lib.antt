@@ -1,4 +1,3 @@
-pub mod Meeting
 pub mod Tiling
 pub mod Found
 pub mod Touched

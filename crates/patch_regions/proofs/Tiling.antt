@@ -1,10 +1,10 @@
 -- What patches own tiles the index space of a level whose boxes are apart: each index of it belongs to the cell beside it.
-use Rattle.std.proofs.Common.{◌≡◌, ◌∙◌, ◌<◌, ◌≤◌, ◌-◌, ◌⊎◌, inl, inr, ℕ, zero, suc, ℤ, pos, ◌-ℤ◌, ◌≤ℤ◌, ◌<ℤ◌, Bool, true, false, cond, Option, None, Some, List, [], ◌∷◌, length, map, ap, refl, sym, subst, arith}
-use Rattle.std.specs.Prelude.{◌==◌, ◌&&◌, IsTrue, Any, find, unwrap_or, slice_get, slice_index}
+use Rattle.std.proofs.Common.{◌≡◌, ◌∙◌, ◌<◌, ◌≤◌, ◌-◌, ◌⊎◌, inl, inr, ℕ, ℤ, pos, ◌-ℤ◌, ◌≤ℤ◌, ◌<ℤ◌, Bool, true, false, Option, None, Some, List, length, map, ap, refl, sym, subst, arith}
+use Rattle.std.specs.Prelude.{◌==◌, ◌&&◌, IsTrue, Any, unwrap_or, slice_get, slice_index}
 use Rattle.std.specs.Int.{int_min}
 use Rattle.std.specs.List.{list_any}
 use Rattle.std.specs.Option.{option_map}
-use Rattle.std.proofs.lemmas.Bool.{cases_order, eqb-true, eqb-false, false_from_ne_true}
+use Rattle.std.proofs.lemmas.Bool.{cases_order, eqb-true, eqb-false}
 use Rattle.std.proofs.lemmas.Int.{ints, clamps}
 use Rattle.std.proofs.lemmas.List.{get_or_default}
 use Rattle.std.proofs.lemmas.Option.{get_or_from_slice_get, slice_get-get_or, slice_get-map, slice_get_within}
@@ -22,7 +22,7 @@ use Rattle.problem_types.specs.declared.problem.BoxLine.{BoxLine}
 use Rattle.problem_types.specs.declared.problem.Level.{Level}
 use Rattle.patch_regions.specs.Regions.{patch_at, box_of, owned_in, owned_span, Owns}
 use Rattle.patch_regions.specs.Laws.{AreBoxesApart, OwnedSpansTile}
-use Rattle.patch_regions.proofs.Meeting.{axes_of, inside}
+use Rattle.uts_geom.specs.Axes.{by_axes, inside_from_axes}
 
 bounds_of : (low high n : ℤ) → is_between low high n ≡ true → (low ≤ℤ n) × (n <ℤ high)
 bounds_of low high n between = (grind (arith, ints), grind (arith, ints))
@@ -116,7 +116,7 @@ fits_on low high from to some first last =
     record { above = (let f = at_first.0 in omega (arith, ints)); some = some; below = (let l = at_last.1 in omega (arith, ints)) }
 
 first_cell : (q : BoxLine) → IsProper q → is_inside (cells_of q) (cells_of q).lo ≡ true
-first_cell q proper = inside (cells_of q) (cells_of q).lo (record {
+first_cell q proper = inside_from_axes (cells_of q) (cells_of q).lo (record {
   x = first_within (slice_index q.lo 0) (slice_index q.hi 0) (proper 0 (omega arith));
   y = first_within (slice_index q.lo 1) (slice_index q.hi 1) (proper 1 (omega arith));
   z = first_within (slice_index q.lo 2) (slice_index q.hi 2) (proper 2 (omega arith));
@@ -126,7 +126,7 @@ abbrev last_of : BoxLine → Index
 last_of q = index (pos (slice_index q.hi 0 - 1)) (pos (slice_index q.hi 1 - 1)) (pos (slice_index q.hi 2 - 1))
 
 last_cell : (q : BoxLine) → IsProper q → is_inside (cells_of q) (last_of q) ≡ true
-last_cell q proper = inside (cells_of q) (last_of q) (record {
+last_cell q proper = inside_from_axes (cells_of q) (last_of q) (record {
   x = last_within (slice_index q.lo 0) (slice_index q.hi 0) (proper 0 (omega arith));
   y = last_within (slice_index q.lo 1) (slice_index q.hi 1) (proper 1 (omega arith));
   z = last_within (slice_index q.lo 2) (slice_index q.hi 2) (proper 2 (omega arith));
@@ -134,8 +134,8 @@ last_cell q proper = inside (cells_of q) (last_of q) (record {
 
 fits_in : (b q : BoxLine) → IsProper q → LiesIn (cells_of q) (cells_of b) → FitsIn b q
 fits_in b q proper lies =
-    let first = axes_of (cells_of b) (cells_of q).lo (lies (cells_of q).lo (first_cell q proper)) in
-    let last = axes_of (cells_of b) (last_of q) (lies (last_of q) (last_cell q proper)) in
+    let first = by_axes (cells_of b) (cells_of q).lo (lies (cells_of q).lo (first_cell q proper)) in
+    let last = by_axes (cells_of b) (last_of q) (lies (last_of q) (last_cell q proper)) in
     record {
       x = fits_on (slice_index b.lo 0) (slice_index b.hi 0) (slice_index q.lo 0) (slice_index q.hi 0) (proper 0 (omega arith)) first.x last.x;
       y = fits_on (slice_index b.lo 1) (slice_index b.hi 1) (slice_index q.lo 1) (slice_index q.hi 1) (proper 1 (omega arith)) first.y last.y;
@@ -149,9 +149,9 @@ beside c b i = index (cell_beside (is_point_like c X) (slice_index b.hi 0) i.x) 
 owns_by_cell : (c : Centring) (b q : BoxLine) (i : Index) → FitsIn b q → is_inside (space_of c b) i ≡ true → is_inside (cells_of q) (beside c b i) ≡ true →
     is_inside (owned_in c b q) i ≡ true
 owns_by_cell c b q i fits on of =
-    let at = axes_of (space_of c b) i on in
-    let cell = axes_of (cells_of q) (beside c b i) of in
-    inside (owned_in c b q) i (record {
+    let at = by_axes (space_of c b) i on in
+    let cell = by_axes (cells_of q) (beside c b i) of in
+    inside_from_axes (owned_in c b q) i (record {
       x = owned_from_cell (is_point_like c X) (slice_index b.lo 0) (slice_index b.hi 0) (slice_index q.lo 0) (slice_index q.hi 0) i.x fits.x at.x cell.x;
       y = owned_from_cell (is_point_like c Y) (slice_index b.lo 1) (slice_index b.hi 1) (slice_index q.lo 1) (slice_index q.hi 1) i.y fits.y at.y cell.y;
       z = owned_from_cell (is_point_like c Z) (slice_index b.lo 2) (slice_index b.hi 2) (slice_index q.lo 2) (slice_index q.hi 2) i.z fits.z at.z cell.z;
@@ -159,8 +159,8 @@ owns_by_cell c b q i fits on of =
 
 cell_of : (c : Centring) (b q : BoxLine) (i : Index) → FitsIn b q → is_inside (owned_in c b q) i ≡ true → is_inside (cells_of q) (beside c b i) ≡ true
 cell_of c b q i fits of =
-    let at = axes_of (owned_in c b q) i of in
-    inside (cells_of q) (beside c b i) (record {
+    let at = by_axes (owned_in c b q) i of in
+    inside_from_axes (cells_of q) (beside c b i) (record {
       x = cell_from_owned (is_point_like c X) (slice_index b.lo 0) (slice_index b.hi 0) (slice_index q.lo 0) (slice_index q.hi 0) i.x fits.x at.x;
       y = cell_from_owned (is_point_like c Y) (slice_index b.lo 1) (slice_index b.hi 1) (slice_index q.lo 1) (slice_index q.hi 1) i.y fits.y at.y;
       z = cell_from_owned (is_point_like c Z) (slice_index b.lo 2) (slice_index b.hi 2) (slice_index q.lo 2) (slice_index q.hi 2) i.z fits.z at.z;
@@ -168,8 +168,8 @@ cell_of c b q i fits of =
 
 in_space : (c : Centring) (b q : BoxLine) (i : Index) → FitsIn b q → is_inside (owned_in c b q) i ≡ true → is_inside (space_of c b) i ≡ true
 in_space c b q i fits of =
-    let at = axes_of (owned_in c b q) i of in
-    inside (space_of c b) i (record {
+    let at = by_axes (owned_in c b q) i of in
+    inside_from_axes (space_of c b) i (record {
       x = owned_within (is_point_like c X) (slice_index b.lo 0) (slice_index b.hi 0) (slice_index q.lo 0) (slice_index q.hi 0) i.x fits.x at.x;
       y = owned_within (is_point_like c Y) (slice_index b.lo 1) (slice_index b.hi 1) (slice_index q.lo 1) (slice_index q.hi 1) i.y fits.y at.y;
       z = owned_within (is_point_like c Z) (slice_index b.lo 2) (slice_index b.hi 2) (slice_index q.lo 2) (slice_index q.hi 2) i.z fits.z at.z;
@@ -177,8 +177,8 @@ in_space c b q i fits of =
 
 cell_in_box : (c : Centring) (b : BoxLine) (i : Index) → IsProper b → is_inside (space_of c b) i ≡ true → is_inside (cells_of b) (beside c b i) ≡ true
 cell_in_box c b i proper on =
-    let at = axes_of (space_of c b) i on in
-    inside (cells_of b) (beside c b i) (record {
+    let at = by_axes (space_of c b) i on in
+    inside_from_axes (cells_of b) (beside c b i) (record {
       x = cell_within (is_point_like c X) (slice_index b.lo 0) (slice_index b.hi 0) i.x (proper 0 (omega arith)) at.x;
       y = cell_within (is_point_like c Y) (slice_index b.lo 1) (slice_index b.hi 1) i.y (proper 1 (omega arith)) at.y;
       z = cell_within (is_point_like c Z) (slice_index b.lo 2) (slice_index b.hi 2) i.z (proper 2 (omega arith)) at.z;
@@ -195,8 +195,8 @@ within_end true low high n on =
 
 cells_in_space : (c : Centring) (b : BoxLine) (i : Index) → is_inside (cells_of b) i ≡ true → is_inside (space_of c b) i ≡ true
 cells_in_space c b i on =
-    let at = axes_of (cells_of b) i on in
-    inside (space_of c b) i (record {
+    let at = by_axes (cells_of b) i on in
+    inside_from_axes (space_of c b) i (record {
       x = within_end (is_point_like c X) (slice_index b.lo 0) (slice_index b.hi 0) i.x at.x;
       y = within_end (is_point_like c Y) (slice_index b.lo 1) (slice_index b.hi 1) i.y at.y;
       z = within_end (is_point_like c Z) (slice_index b.lo 2) (slice_index b.hi 2) i.z at.z;

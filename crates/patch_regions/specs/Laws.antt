@@ -1,13 +1,11 @@
--- What patches own, together, and when spans meet.
+-- What patches own, together.
 use Rattle.std.specs.Prelude.{◌≡◌, ℕ, ◌↔◌, IsTrue, AllPairs}
-use Rattle.uts_geom.specs.Spans.{is_inside}
 use Rattle.uts_geom.specs.declared.centring.Centring.{Centring}
 use Rattle.uts_geom.specs.declared.index.Index.{Index}
-use Rattle.uts_geom.specs.declared.span.Span.{Span}
 use Rattle.problem_types.specs.Levels.{AreApart, IsTiled, is_on_level}
 use Rattle.problem_types.specs.Regions.{space_of}
 use Rattle.problem_types.specs.declared.problem.Level.{Level}
-use Rattle.patch_regions.specs.Regions.{Owns, do_meet}
+use Rattle.patch_regions.specs.Regions.{Owns}
 
 -- no index lies in the index spaces of two boxes of the level
 abbrev pub AreBoxesApart : Centring → Level → Type 0
@@ -19,7 +17,3 @@ abbrev pub OwnedSpansTile : Type 0
 OwnedSpansTile = (l : Level) (c : Centring) (i : Index) → IsTiled l → AreBoxesApart c l →
     (IsTrue (is_on_level c l i) ↔ ((patch : ℕ) × Owns c l patch i))
     × ((j k : ℕ) → Owns c l j i → Owns c l k i → j ≡ k)
-
--- two spans meet exactly where an index lies in both
-abbrev pub SpansMeetInIndexes : Type 0
-SpansMeetInIndexes = (a b : Span) → IsTrue (do_meet a b) ↔ ((i : Index) × IsTrue (is_inside a i) × IsTrue (is_inside b i))

@@ -1,7 +1,7 @@
 -- What the patches of a level own.
-use Rattle.std.specs.Prelude.{ℕ, ◌<◌, ◌==◌, Bool, ◌&&◌, List, [], length, filter, find, unwrap_or, int_lt, IsTrue, slice_index, slice_index_or}
+use Rattle.std.specs.Prelude.{ℕ, ◌<◌, ◌==◌, Bool, ◌&&◌, List, [], length, filter, find, unwrap_or, IsTrue, slice_index, slice_index_or}
 use Rattle.uts_geom.specs.Centrings.{is_point_like}
-use Rattle.uts_geom.specs.Spans.{index, is_inside, counted, meet_of}
+use Rattle.uts_geom.specs.Spans.{index, is_inside, counted, do_meet}
 use Rattle.uts_geom.specs.declared.centring.Axis.TheVariants.{X, Y, Z}
 use Rattle.uts_geom.specs.declared.centring.Centring.{Centring}
 use Rattle.uts_geom.specs.declared.index.Index.{Index}
@@ -38,14 +38,6 @@ owned_span c l patch = owned_in c (box_of l.boxes (patch_at l patch)) (patch_at 
 
 abbrev pub Owns : Centring → Level → ℕ → Index → Type 0
 Owns c l patch i = (patch < length l.patches) × IsTrue (is_inside (owned_span c l patch) i)
-
--- its low bounds are below its high bounds
-abbrev pub has_indexes : Span → Bool
-has_indexes s = int_lt s.lo.x s.hi.x && (int_lt s.lo.y s.hi.y && int_lt s.lo.z s.hi.z)
-
--- two spans have an index in common
-abbrev pub do_meet : Span → Span → Bool
-do_meet a b = has_indexes (meet_of a b)
 
 -- the patches that own an index of the span, by ascending number
 abbrev pub touching_patches : Centring → Level → Span → List ℕ

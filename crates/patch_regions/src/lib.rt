@@ -9,9 +9,9 @@ mod ownership;
 mod tests;
 mod touches;
 
-pub use laws::{owned_spans_tile, spans_meet_in_indexes};
+pub use laws::owned_spans_tile;
 pub use lines::{index_space, patch_box, patch_count, patch_line};
 pub use owners::owner;
 pub use ownership::owned;
 pub use problem_types::NoMemory;
-pub use touches::{do_meet, touching};
+pub use touches::touching;

@@ -5,7 +5,7 @@ ghost use Rattle.problem_types.specs.Levels.{HasNearBounds, KeepsGridLimits, cel
 ghost use Rattle.problem_types.specs.Regions.{end_of, spaces_on};
 ghost use Rattle.patch_regions.specs.Regions.{patch_at, reaching};
 
-use problem_types::{BoxLine, Level, level_box};
+use problem_types::{BoxLine, Level, cells, level_box};
 use uts_geom::{Axis, Centring, Index, Span, point_like};
 
 /// An index by its coordinates.
@@ -74,7 +74,7 @@ pub fn patch_box(level: &Level, patch: u32) -> Span
     requires patch { patch < length level.now.patches }
     ensures { result ≡ cells_of (patch_at level.now patch) }
 {
-    reaching(patch_line(level, patch), false, false, false)
+    cells(patch_line(level, patch))
 }
 
 /// The index space of the level's box, half-open on each axis: the box's cells, and on the axes on which the centring is

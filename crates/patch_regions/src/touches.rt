@@ -1,26 +1,13 @@
 //! Which patches a span touches.
 ghost use Rattle.std.specs.Prelude.{◌≡◌, ◌++◌, ◌∷◌, [], IfOk, OnOk, if◌then◌else◌};
 ghost use Rattle.problem_types.specs.Levels.{KeepsGridLimits};
-ghost use Rattle.patch_regions.specs.Regions.{do_meet, has_indexes, touching_patches};
+ghost use Rattle.patch_regions.specs.Regions.{touching_patches};
 
 use crate::lines::patch_count;
 use crate::ownership::owned;
 use problem_types::{Level, NoMemory};
 use std::alloc::{AllocError, Global};
-use uts_geom::{Centring, Span, meet};
-
-fn has_indexes(s: Span) -> bool
-    ensures { result ≡ has_indexes s }
-{
-    s.lo.x < s.hi.x && s.lo.y < s.hi.y && s.lo.z < s.hi.z
-}
-
-/// Whether the spans have an index in common.
-pub fn do_meet(a: Span, b: Span) -> bool
-    ensures { result ≡ do_meet a b }
-{
-    has_indexes(meet(a, b))
-}
+use uts_geom::{Centring, Span, do_meet};
 
 // Puts the patch at the end where it touches.
 fn put_if(touches: bool, patch: u32, found: &mut Vec<u32>) -> Result<(), AllocError>

@@ -1,5 +1,5 @@
 -- Levels of the grid: their boxes and patches as sets of cells.
-use Rattle.std.specs.Prelude.{◌≡◌, ℕ, ◌<◌, ◌≤◌, Bool, List, length, All, AllPairs, Any, IsTrue, slice_index}
+use Rattle.std.specs.Prelude.{◌≡◌, ℕ, ◌<◌, ◌≤◌, Bool, length, All, AllPairs, Any, IsTrue, slice_index}
 use Rattle.uts_geom.specs.Spans.{is_inside}
 use Rattle.uts_geom.specs.declared.index.Index.{Index}
 use Rattle.uts_geom.specs.declared.span.Span.{Span}

@@ -2,6 +2,7 @@
 #![tactic(auto)]
 
 mod ascending;
+mod boxes;
 mod copying;
 mod form;
 mod lines;
@@ -10,10 +11,11 @@ mod name;
 mod problem;
 
 pub use ascending::is_ascending;
+pub use boxes::{cells, level_box};
 pub use copying::copy;
 pub use form::{are_layers_in_form, in_form};
 pub use kernel_ast::{Expr, How, Op, Read, Store};
-pub use lookup::{level_box, reduction_of, var_of};
+pub use lookup::{reduction_of, var_of};
 pub use name::{Name, NoMemory};
 pub use problem::{
     BoxLine, Fold, Ghost, GhostKind, Keep, Level, Num, Problem, Reduction, Require, Task, Var,

@@ -1,8 +1,7 @@
-ghost use Rattle.std.specs.Prelude.{◌≡◌, ◌∷◌, []};
-ghost use Rattle.problem_types.specs.Levels.{HasNearBounds, KeepsGridLimits};
+ghost use Rattle.std.specs.Prelude.{◌≡◌};
 ghost use Rattle.problem_types.specs.Lists.{variable_place, reduction_place};
 
-use crate::{BoxLine, Level, Problem};
+use crate::Problem;
 
 /// The place of the first declaration of a variable of this name, `None` where there is none.
 pub fn var_of(p: &Problem, name: u32) -> Option<usize>
@@ -16,13 +15,4 @@ pub fn reduction_of(p: &Problem, name: u32) -> Option<usize>
     ensures { result ≡ reduction_place p.now name }
 {
     p.reductions.as_slice().iter().position(|r| r.name == name)
-}
-
-/// The line of the level's only box.
-pub fn level_box(level: &Level) -> BoxLine
-    requires { KeepsGridLimits level.now }
-    ensures only { level.now.boxes ≡ result ∷ [] }
-    ensures near { HasNearBounds result }
-{
-    level.boxes.as_slice()[0]
 }

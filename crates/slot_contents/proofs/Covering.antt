@@ -6,7 +6,7 @@ use Rattle.std.specs.List.{find, list_any}
 use Rattle.std.specs.Option.{is_some, option_map_or}
 use Rattle.std.proofs.lemmas.Bool.{and_from, and_parts, eq-eqb, lt-ltb, not_from_false}
 use Rattle.std.proofs.lemmas.List.Elements.{All-contains, Contains-append_left, Contains-append_right}
-use Rattle.uts_geom.specs.Spans.{is_inside}
+use Rattle.uts_geom.specs.Spans.{is_inside, do_meet}
 use Rattle.uts_geom.specs.declared.centring.Centring.{Centring}
 use Rattle.uts_geom.specs.declared.index.Index.{Index}
 use Rattle.uts_geom.specs.Lists.{any_at, contains_at, from_take}
@@ -24,8 +24,9 @@ use Rattle.problem_types.specs.declared.problem.Write.{Write}
 use Rattle.problem_types.specs.declared.problem.WriteKind.{WriteKind}
 use Rattle.problem_types.specs.declared.problem.WriteKind.TheVariants as write
 use Rattle.patch_regions.specs.OnGrid.{one_box_apart}
-use Rattle.patch_regions.specs.Laws.{OwnedSpansTile, SpansMeetInIndexes}
-use Rattle.patch_regions.specs.Regions.{do_meet, owned_span}
+use Rattle.uts_geom.specs.Laws.{SpansMeetInIndexes}
+use Rattle.patch_regions.specs.Laws.{OwnedSpansTile}
+use Rattle.patch_regions.specs.Regions.{owned_span}
 use Rattle.task_rules.specs.Lines.{wanted_level, wanted_name}
 use Rattle.task_rules.specs.Names.{IsReduction, IsVariable}
 use Rattle.task_check.specs.Bounds.{IsBounded}

@@ -3,10 +3,10 @@
 ghost use Rattle.slot_contents.specs.Laws.{SlotsHoldWhatStood, WindowsAreCovered, OutsideStandsOutside, NumbersHoldWhatStood, NumbersAreRead, PartsMakeReductions, KernelsMakeFields};
 
 use graph_compiler::slots_stand_once;
-use patch_regions::{owned_spans_tile, spans_meet_in_indexes};
+use patch_regions::owned_spans_tile;
 use reductions::{order_does_not_matter, parts_fold_apart};
 use task_check::accepted_problems_are_bounded;
-use uts_geom::{indexes_stand_once, spans_hold_their_indexes};
+use uts_geom::{indexes_stand_once, spans_hold_their_indexes, spans_meet_in_indexes};
 
 /// A slot that has a variable as it stands for a task holds what stood before the task.
 pub fn slots_hold_what_stood()

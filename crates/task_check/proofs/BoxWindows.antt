@@ -5,7 +5,7 @@ use Rattle.std.specs.List.{list_any}
 use Rattle.std.proofs.lemmas.Bool.{and_from, and_parts}
 use Rattle.std.proofs.lemmas.Int.{ints}
 use Rattle.std.proofs.lemmas.List.{get_or_default}
-use Rattle.uts_geom.specs.Spans.{index, counted, is_between, is_inside}
+use Rattle.uts_geom.specs.Spans.{index, counted, is_between, is_inside, do_meet}
 use Rattle.uts_geom.specs.declared.index.Index.{Index}
 use Rattle.uts_geom.specs.declared.span.Span.{Span}
 use Rattle.uts_geom.specs.declared.centring.Centring.TheVariants.{Cell}
@@ -15,8 +15,8 @@ use Rattle.problem_types.specs.Levels.{cells_of, IsProper, IsTiled, LiesIn}
 use Rattle.problem_types.specs.Regions.{space_of}
 use Rattle.problem_types.specs.declared.problem.BoxLine.{BoxLine}
 use Rattle.problem_types.specs.declared.problem.Level.{Level}
-use Rattle.patch_regions.specs.Laws.{SpansMeetInIndexes}
-use Rattle.patch_regions.specs.Regions.{do_meet, patch_at}
+use Rattle.uts_geom.specs.Laws.{SpansMeetInIndexes}
+use Rattle.patch_regions.specs.Regions.{patch_at}
 use Rattle.task_check.proofs.Spreads.{IsSpread}
 use Rattle.task_check.proofs.Tests.{any-counted_at}
 

@@ -5,7 +5,7 @@ use Rattle.std.specs.Int.{int_max, int_min}
 use Rattle.std.proofs.Math.Nat.{eq-or-lt_of_le}
 use Rattle.std.proofs.lemmas.Int.{ints, clamps}
 use Rattle.uts_geom.specs.declared.span.Span.{Span}
-use Rattle.patch_regions.specs.Regions.{do_meet, has_indexes}
+use Rattle.uts_geom.specs.Spans.{do_meet, has_indexes}
 use Rattle.task_check.specs.Columns.{HasBounds}
 use Rattle.task_check.specs.declared.plan.columns.Column.{Column}
 use Rattle.task_check.proofs.Touching.{apart_on_x, apart_on_y, apart_on_z}

@@ -10,7 +10,7 @@ use Rattle.std.proofs.lemmas.List.Elements.{All-head}
 use Rattle.kernel_ast.specs.declared.expression.Store.{Store}
 use Rattle.kernel_ast.specs.declared.expression.Store.TheVariants as store
 use Rattle.uts_geom.specs.Centrings.{is_point_like}
-use Rattle.uts_geom.specs.Spans.{counted}
+use Rattle.uts_geom.specs.Spans.{counted, do_meet}
 use Rattle.uts_geom.specs.declared.centring.Axis.{Axis}
 use Rattle.uts_geom.specs.declared.centring.Axis.TheVariants.{X, Y, Z}
 use Rattle.uts_geom.specs.declared.centring.Centring.{Centring}
@@ -36,8 +36,8 @@ use Rattle.ghost_rules.specs.declared.along.Along.{Along}
 use Rattle.ghost_rules.specs.declared.along.Along.TheVariants.{Nothing, Intervals, Points, Own}
 use Rattle.ghost_rules.specs.declared.seen.Seen.{Seen}
 use Rattle.ghost_rules.specs.declared.seen.Seen.TheVariants as seen
-use Rattle.patch_regions.specs.Laws.{SpansMeetInIndexes}
-use Rattle.patch_regions.specs.Regions.{do_meet, owned_span, patch_at}
+use Rattle.uts_geom.specs.Laws.{SpansMeetInIndexes}
+use Rattle.patch_regions.specs.Regions.{owned_span, patch_at}
 use Rattle.task_rules.specs.Lines.{has_modifies, wanted_name, wanted_level}
 use Rattle.task_check.specs.First.{IsFaultless}
 use Rattle.task_check.specs.OldSlots.{is_old, is_old_variable, wants_old}

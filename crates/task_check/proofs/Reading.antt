@@ -7,7 +7,7 @@ use Rattle.std.proofs.lemmas.Bool.{eq-eqb}
 use Rattle.std.proofs.lemmas.List.Sums.{sum_by-append, sum_by-le-sum_by}
 use Rattle.std.proofs.lemmas.List.Elements.{All-contains}
 use Rattle.kernel_ast.specs.declared.expression.Store.{Store}
-use Rattle.uts_geom.specs.Spans.{counted}
+use Rattle.uts_geom.specs.Spans.{counted, do_meet}
 use Rattle.uts_geom.specs.declared.span.Span.{Span}
 use Rattle.uts_geom.specs.Counting.{counted-at, within}
 use Rattle.uts_geom.specs.Lists.{contains_at, placed, any_at}
@@ -20,7 +20,7 @@ use Rattle.problem_types.specs.declared.problem.Require.{Require}
 use Rattle.problem_types.specs.declared.problem.What.{What}
 use Rattle.problem_types.specs.declared.problem.What.TheVariants as what
 use Rattle.problem_types.specs.declared.problem.Write.{Write}
-use Rattle.patch_regions.specs.Regions.{do_meet, owned_span}
+use Rattle.patch_regions.specs.Regions.{owned_span}
 use Rattle.task_rules.specs.Lines.{wanted_name, wanted_level}
 use Rattle.task_rules.specs.Names.{WantsMissingLevel}
 use Rattle.task_check.specs.declared.fault.FaultKind.TheVariants as kind

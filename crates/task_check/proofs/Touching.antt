@@ -5,12 +5,11 @@ use Rattle.std.specs.Prelude.{◌&&◌, IsFalse, int_lt, slice_get}
 use Rattle.std.specs.Int.{int_max, int_min}
 use Rattle.std.specs.List.{count_by, sum_by}
 use Rattle.std.specs.Option.{option_map_or}
-use Rattle.uts_geom.specs.Spans.{counted}
+use Rattle.uts_geom.specs.Spans.{counted, do_meet}
 use Rattle.uts_geom.specs.declared.centring.Centring.{Centring}
 use Rattle.uts_geom.specs.declared.span.Span.{Span}
 use Rattle.problem_types.specs.declared.problem.Problem.{Problem}
 use Rattle.problem_types.specs.declared.problem.Level.{Level}
-use Rattle.patch_regions.specs.Regions.{do_meet}
 use Rattle.task_check.specs.declared.plan.reach.Reach.{Reach}
 use Rattle.task_check.specs.Reaches.{reached_level, reach_window, touched_count, touch_count}
 use Rattle.task_check.proofs.Sums.{sum-counted_more}

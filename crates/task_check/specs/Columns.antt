@@ -3,7 +3,8 @@ use Rattle.std.specs.Prelude.{◌≡◌, ℕ, ℤ, pos, ◌<◌, ◌≤◌, IsTr
 use Rattle.uts_geom.specs.declared.centring.Centring.{Centring}
 use Rattle.uts_geom.specs.declared.span.Span.{Span}
 use Rattle.problem_types.specs.declared.problem.Level.{Level}
-use Rattle.patch_regions.specs.Regions.{owned_span, has_indexes}
+use Rattle.uts_geom.specs.Spans.{has_indexes}
+use Rattle.patch_regions.specs.Regions.{owned_span}
 use Rattle.task_check.specs.declared.plan.columns.Column.{Column}
 use Rattle.task_check.specs.declared.plan.columns.Columns.{Columns}
 use Rattle.task_check.specs.declared.plan.columns.Interval.{Interval}

@@ -4,7 +4,7 @@ use Rattle.std.specs.List.{flat_map, list_any}
 use Rattle.std.specs.Option.{option_map_or, is_some}
 use Rattle.kernel_ast.specs.declared.expression.Store.{Store}
 use Rattle.kernel_ast.specs.declared.expression.Store.TheVariants as store
-use Rattle.uts_geom.specs.Spans.{index, counted}
+use Rattle.uts_geom.specs.Spans.{index, counted, do_meet}
 use Rattle.uts_geom.specs.Centrings.{is_point_like}
 use Rattle.uts_geom.specs.declared.centring.Axis.TheVariants.{X, Y, Z}
 use Rattle.uts_geom.specs.declared.centring.Centring.{Centring}
@@ -22,7 +22,7 @@ use Rattle.problem_types.specs.declared.problem.Write.{Write}
 use Rattle.problem_types.specs.declared.problem.WriteKind.{WriteKind}
 use Rattle.problem_types.specs.declared.problem.WriteKind.TheVariants as kind
 use Rattle.grid_levels.specs.Good.{divided}
-use Rattle.patch_regions.specs.Regions.{patch_at, owned_span, do_meet}
+use Rattle.patch_regions.specs.Regions.{patch_at, owned_span}
 use Rattle.ghost_rules.specs.Windows.{window_of}
 use Rattle.ghost_rules.specs.declared.seen.Seen.{Seen}
 use Rattle.ghost_rules.specs.declared.seen.Seen.TheVariants as seen

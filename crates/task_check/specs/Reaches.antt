@@ -3,7 +3,7 @@ use Rattle.std.specs.Prelude.{ℕ, ◌+◌, ◌-◌, ◌≤◌, Option, Some, No
 use Rattle.std.specs.List.{count_by, sum_by}
 use Rattle.std.specs.Option.{option_map_or}
 use Rattle.kernel_ast.specs.declared.expression.Store.{Store}
-use Rattle.uts_geom.specs.Spans.{counted}
+use Rattle.uts_geom.specs.Spans.{counted, do_meet}
 use Rattle.uts_geom.specs.declared.centring.Centring.{Centring}
 use Rattle.uts_geom.specs.declared.span.Span.{Span}
 use Rattle.problem_types.specs.Levels.{cells_of}
@@ -14,7 +14,7 @@ use Rattle.problem_types.specs.declared.problem.Task.{Task}
 use Rattle.problem_types.specs.declared.problem.What.{What}
 use Rattle.problem_types.specs.declared.problem.What.TheVariants as what
 use Rattle.grid_levels.specs.Good.{divided}
-use Rattle.patch_regions.specs.Regions.{patch_at, owned_span, do_meet}
+use Rattle.patch_regions.specs.Regions.{patch_at, owned_span}
 use Rattle.ghost_rules.specs.Windows.{window_of, AreFewSeen}
 use Rattle.task_check.specs.Supplies.{seen_of}
 use Rattle.task_check.specs.Plan.{window_seen, refined}

@@ -1,3 +1,4 @@
 pub mod Sets
 pub mod Meets
 pub mod Walking
+pub mod Meeting

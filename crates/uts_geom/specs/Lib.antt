@@ -8,3 +8,5 @@ pub mod Near
 pub mod Pieces
 pub mod Places
 pub mod SameIndexes
+pub mod Axes
+pub mod Laws

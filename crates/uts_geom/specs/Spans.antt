@@ -69,6 +69,14 @@ meet_of a b = record {
   hi = index (int_min a.hi.x b.hi.x) (int_min a.hi.y b.hi.y) (int_min a.hi.z b.hi.z);
 }
 
+-- its low corner lies below its high corner on each axis
+abbrev pub has_indexes : Span → Bool
+has_indexes s = int_lt s.lo.x s.hi.x && (int_lt s.lo.y s.hi.y && int_lt s.lo.z s.hi.z)
+
+-- two spans have an index in common
+abbrev pub do_meet : Span → Span → Bool
+do_meet a b = has_indexes (meet_of a b)
+
 -- coordinates for which sizes and places are computed lie from -65,536 to 65,536
 abbrev pub IsNearNumber : ℤ → Type 0
 IsNearNumber n = (negsuc 65535 ≤ℤ n) × (n ≤ℤ pos 65536)

@@ -13,8 +13,8 @@ mod walks;
 
 pub use centring::{Axis, Centring, point_like};
 pub use index::Index;
-pub use laws::{indexes_stand_once, spans_hold_their_indexes};
+pub use laws::{indexes_stand_once, spans_hold_their_indexes, spans_meet_in_indexes};
 pub use row_walk::Rows;
 pub use sizes::{offset_in, volume};
-pub use span::{Span, contains, meet};
+pub use span::{Span, contains, do_meet, meet};
 pub use walks::rows;

@@ -1,5 +1,5 @@
 ghost use Rattle.std.specs.Prelude.{◌≡◌, ◌&&◌};
-ghost use Rattle.uts_geom.specs.Spans.{is_between, is_inside, meet_of};
+ghost use Rattle.uts_geom.specs.Spans.{is_between, is_inside, meet_of, has_indexes, do_meet};
 ghost use Rattle.uts_geom.specs.declared.index.Index.{Index};
 
 use crate::Index;
@@ -44,4 +44,17 @@ pub fn meet(a: Span, b: Span) -> Span
             z: a.hi.z.min(b.hi.z),
         },
     }
+}
+
+fn has_indexes(s: Span) -> bool
+    ensures { result ≡ has_indexes s }
+{
+    s.lo.x < s.hi.x && s.lo.y < s.hi.y && s.lo.z < s.hi.z
+}
+
+/// Whether the spans have an index in common.
+pub fn do_meet(a: Span, b: Span) -> bool
+    ensures { result ≡ do_meet a b }
+{
+    has_indexes(meet(a, b))
 }

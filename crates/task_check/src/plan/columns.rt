@@ -2,18 +2,18 @@
 ghost use Rattle.std.specs.Prelude.{◌≡◌, ◌<◌, ◌≤◌, ◌≤ℤ◌, ◌&&◌, ℕ, ℤ, pos, All, IsTrue, int_lt, nat_lt, length, slice_index};
 ghost use Rattle.std.specs.Int.{int_max, int_min};
 ghost use Rattle.std.specs.List.{count_by};
-ghost use Rattle.uts_geom.specs.Spans.{coordinate, counted};
+ghost use Rattle.uts_geom.specs.Spans.{coordinate, counted, do_meet, has_indexes};
 ghost use Rattle.uts_geom.specs.declared.centring.Centring.{Centring};
 ghost use Rattle.uts_geom.specs.declared.span.Span.{Span};
 ghost use Rattle.problem_types.specs.Levels.{IsProper, KeepsGridLimits};
 ghost use Rattle.problem_types.specs.declared.problem.Level.{Level};
-ghost use Rattle.patch_regions.specs.Regions.{do_meet, has_indexes, owned_span};
+ghost use Rattle.patch_regions.specs.Regions.{owned_span};
 ghost use Rattle.task_check.specs.Columns.{HasBounds, HasOwned, HasSpan, IsCut, IsCutWindow};
 ghost use Rattle.task_check.specs.Reaches.{touched_count};
 
-use patch_regions::{do_meet, owned, patch_count};
+use patch_regions::{owned, patch_count};
 use problem_types::{Centring, Level};
-use uts_geom::{Axis, Index, Span};
+use uts_geom::{Axis, Index, Span, do_meet};
 
 /// The bounds on one axis, by the number of the patch. Behind the last patch they say nothing.
 #[derive(Drop)]

@@ -5,7 +5,8 @@ ghost use Rattle.problem_types.specs.Form.{IsProblemInForm, IsWhatInForm};
 ghost use Rattle.problem_types.specs.Levels.{KeepsGridLimits};
 ghost use Rattle.problem_types.specs.Lists.{task_list};
 ghost use Rattle.problem_types.specs.declared.problem.Task.{Task};
-ghost use Rattle.patch_regions.specs.Regions.{do_meet, owned_span};
+ghost use Rattle.uts_geom.specs.Spans.{do_meet};
+ghost use Rattle.patch_regions.specs.Regions.{owned_span};
 ghost use Rattle.task_rules.specs.Lines.{wanted_level};
 ghost use Rattle.task_check.specs.First.{IsFaultless};
 ghost use Rattle.task_check.specs.Marks.{AreMarkedToo, is_marked};
@@ -15,11 +16,11 @@ ghost use Rattle.task_check.specs.Plan.{Old, OldNumber, is_read, patches_of};
 ghost use Rattle.task_check.specs.Sizes.{IsTask};
 
 use crate::plan::windows::{box_window, level_at, wanted_level};
-use patch_regions::{do_meet, owned, patch_count};
+use patch_regions::{owned, patch_count};
 use problem_lookup::{centring_of, task_list};
 use problem_types::{Centring, Level, Problem, Require, Store, Task, What};
 use task_rules::wanted_name;
-use uts_geom::Span;
+use uts_geom::{Span, do_meet};
 
 /// Whether the requirement is of the variable at the end of the step before.
 fn is_old_variable(r: Require, name: u32) -> bool
@@ -151,7 +152,9 @@ pub(crate) fn is_required(p: &Problem, list: u32, name: u32) -> bool
     false
 }
 
-/// The patches of a level on which a task of the list reads the variable at the end of the step before, for the material.
+/// For each patch of the level, at its number, whether a task of the list (0 for the init list, 1 for the timestep list) reads the
+/// variable there at the end of the step before, for the material. What stands behind the level's last patch says nothing. There is
+/// no error.
 pub fn read_patches(p: &Problem, list: u32, name: u32, level: u64, material: u64) -> [bool; 1024]
     requires form { IsProblemInForm p.now }
     requires faultless { IsFaultless p.now }

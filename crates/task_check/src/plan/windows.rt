@@ -2,7 +2,7 @@
 ghost use Rattle.std.specs.Prelude.{◌≡◌, ◌+◌, ◌<◌, ◌≤◌, ◌+ℤ◌, ◌*ℤ◌, pos, if◌then◌else◌, length, slice_get, IsFalse, Some};
 ghost use Rattle.std.specs.List.{list_any};
 ghost use Rattle.kernel_ast.specs.declared.expression.Store.TheVariants as store;
-ghost use Rattle.uts_geom.specs.Spans.{IsNearNumber, IsNearSpan, counted};
+ghost use Rattle.uts_geom.specs.Spans.{IsNearNumber, IsNearSpan, counted, do_meet};
 ghost use Rattle.uts_geom.specs.declared.span.Span.{Span};
 ghost use Rattle.problem_types.specs.Form.{IsProblemInForm, IsWhatInForm};
 ghost use Rattle.problem_types.specs.Levels.{HasNearBounds, KeepsGridLimits, cells_of};
@@ -10,7 +10,7 @@ ghost use Rattle.problem_types.specs.Lists.{centring_of};
 ghost use Rattle.problem_types.specs.Regions.{ratio_of};
 ghost use Rattle.problem_types.specs.declared.problem.Level.{Level};
 ghost use Rattle.problem_types.specs.declared.problem.Task.{Task};
-ghost use Rattle.patch_regions.specs.Regions.{do_meet, patch_at};
+ghost use Rattle.patch_regions.specs.Regions.{patch_at};
 ghost use Rattle.task_rules.specs.Lines.{wanted_level};
 ghost use Rattle.ghost_rules.specs.Windows.{AreFewSeen};
 ghost use Rattle.task_check.specs.First.{IsFaultless};
@@ -23,14 +23,14 @@ use crate::plan::reach::Reach;
 use crate::plan::reads::reach_of;
 use ghost_rules::{Seen, window};
 use grid_levels::divided;
-use patch_regions::{index_space, owned, patch_box, patch_line, spans_meet_in_indexes};
+use patch_regions::{index_space, owned, patch_box, patch_line};
 use problem_lookup::centring_of;
 use problem_types::{
     BoxLine, Centring, Ghost, GhostKind, Level, Problem, Require, Store, Task, Var, What, Write,
     WriteKind, level_box,
 };
 use task_rules::wanted_name;
-use uts_geom::{Axis, Index, Span, point_like};
+use uts_geom::{Axis, Index, Span, point_like, spans_meet_in_indexes};
 
 /// The level of this number.
 pub fn level_at(p: &Problem, level: u64) -> &Level

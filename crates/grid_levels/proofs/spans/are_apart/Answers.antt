@@ -1,5 +1,5 @@
-use Rattle.grid_levels.proofs.Beside.{apart_by_corner}
+use Rattle.grid_levels.proofs.Beside.{apart_unless_met}
 use Rattle.grid_levels.proofs.spans.are_apart.Goals as goal
 
 pub returns : goal.returns
-returns c = apart_by_corner c.args.a c.args.b c.meet-common.result c.contains.result c.meet-common.ensures.common c.contains.ensures
+returns c = apart_unless_met c.spans_meet_in_indexes.ensures c.args.a c.args.b c.do_meet.result c.do_meet.ensures

@@ -1,6 +1,7 @@
 use Rattle.std.proofs.Common.{◌∙◌, ap}
 use Rattle.uts_geom.specs.declared.span.Span.{Span}
-use Rattle.patch_regions.specs.Regions.{do_meet, owned_span}
+use Rattle.uts_geom.specs.Spans.{do_meet}
+use Rattle.patch_regions.specs.Regions.{owned_span}
 use Rattle.patch_regions.proofs.Touched.{touched_more}
 use Rattle.patch_regions.proofs.touches.touching.Goals as goal
 

@@ -1,7 +1,8 @@
 use Rattle.std.proofs.Common.{◌≡◌}
 use Rattle.std.specs.Prelude.{filter}
 use Rattle.uts_geom.specs.Spans.{counted}
-use Rattle.patch_regions.specs.Regions.{do_meet, owned_span}
+use Rattle.uts_geom.specs.Spans.{do_meet}
+use Rattle.patch_regions.specs.Regions.{owned_span}
 use Rattle.patch_regions.proofs.touches.touching.Given as goal
 
 abbrev pub invariant-loop-patch : goal.invariant-loop-patch

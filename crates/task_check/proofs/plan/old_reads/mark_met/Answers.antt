@@ -1,6 +1,7 @@
 use Rattle.std.proofs.Common.{◌≡◌, ◌<◌, ◌∙◌, ℕ, length, ap, arith, subst}
 use Rattle.uts_geom.specs.declared.span.Span.{Span}
-use Rattle.patch_regions.specs.Regions.{do_meet, owned_span}
+use Rattle.uts_geom.specs.Spans.{do_meet}
+use Rattle.patch_regions.specs.Regions.{owned_span}
 use Rattle.task_check.specs.Marks.{AreMarkedToo}
 use Rattle.task_check.proofs.Marks.{none_marked, one_marked}
 use Rattle.task_check.proofs.plan.old_reads.mark_met.Goals as goal

@@ -1,4 +1,5 @@
-use Rattle.patch_regions.specs.Regions.{do_meet, owned_span}
+use Rattle.uts_geom.specs.Spans.{do_meet}
+use Rattle.patch_regions.specs.Regions.{owned_span}
 use Rattle.task_check.proofs.Marks.{AreMarkedBefore}
 use Rattle.task_check.proofs.plan.old_reads.mark_met.Given as goal
 

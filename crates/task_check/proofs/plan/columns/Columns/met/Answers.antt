@@ -1,7 +1,6 @@
 use Rattle.std.proofs.Common.{arith, ◌≡◌, ◌≤◌, ◌+◌, ◌∙◌, ap, ℕ}
 use Rattle.std.specs.List.{count_by}
-use Rattle.uts_geom.specs.Spans.{counted}
-use Rattle.patch_regions.specs.Regions.{do_meet}
+use Rattle.uts_geom.specs.Spans.{counted, do_meet}
 use Rattle.task_check.proofs.Touching.{count_more, one_at_most, byte_is}
 use Rattle.task_check.proofs.plan.columns.Columns.met.Goals as goal
 

@@ -1,9 +1,8 @@
 use Rattle.std.proofs.Common.{◌≡◌, ◌<◌, ◌≤◌, ℕ}
 use Rattle.std.specs.Prelude.{IsTrue}
 use Rattle.std.specs.List.{count_by}
-use Rattle.uts_geom.specs.Spans.{counted}
+use Rattle.uts_geom.specs.Spans.{counted, do_meet, has_indexes}
 use Rattle.uts_geom.specs.declared.span.Span.{Span}
-use Rattle.patch_regions.specs.Regions.{do_meet, has_indexes}
 use Rattle.task_check.specs.Columns.{HasSpan, IsCutWindow}
 use Rattle.task_check.proofs.plan.columns.Columns.met.Given as goal
 

@@ -1,7 +1,7 @@
 use Rattle.std.proofs.Common.{◌∙◌, ◌<◌, ℕ, ap, length, subst, sym}
 use Rattle.std.specs.List.{count_by}
-use Rattle.uts_geom.specs.Spans.{counted}
-use Rattle.patch_regions.specs.Regions.{do_meet, owned_span}
+use Rattle.uts_geom.specs.Spans.{counted, do_meet}
+use Rattle.patch_regions.specs.Regions.{owned_span}
 use Rattle.task_check.proofs.Columns.{meets_itself, meets_none}
 use Rattle.task_check.proofs.Sums.{count-none}
 use Rattle.task_check.proofs.plan.columns.Columns.touched.Goals as goal

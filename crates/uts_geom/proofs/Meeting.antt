@@ -4,25 +4,9 @@ use Rattle.std.specs.Prelude.{int_lt}
 use Rattle.std.specs.Int.{int_max, int_min}
 use Rattle.std.proofs.lemmas.Bool.{and_from, and_parts}
 use Rattle.std.proofs.lemmas.Int.{ints, clamps}
-use Rattle.uts_geom.specs.declared.index.Index.{Index}
-use Rattle.uts_geom.specs.declared.span.Span.{Span}
-use Rattle.uts_geom.specs.Spans.{is_between, is_inside, meet_of}
-use Rattle.patch_regions.specs.Laws.{SpansMeetInIndexes}
-
--- an index lies in a span, axis by axis
-pub record LiesInside (s : Span) (i : Index) : Type 0 where
-  pub x : is_between s.lo.x s.hi.x i.x ≡ true
-  pub y : is_between s.lo.y s.hi.y i.y ≡ true
-  pub z : is_between s.lo.z s.hi.z i.z ≡ true
-
-pub axes_of : (s : Span) (i : Index) → is_inside s i ≡ true → LiesInside s i
-axes_of s i inside =
-    let on_x = and_parts _ _ inside in
-    let on_y = and_parts _ _ on_x.1 in
-    record { x = on_x.0; y = on_y.0; z = on_y.1 }
-
-pub inside : (s : Span) (i : Index) → LiesInside s i → is_inside s i ≡ true
-inside s i on = and_from _ _ on.x (and_from _ _ on.y on.z)
+use Rattle.uts_geom.specs.Spans.{is_between, meet_of}
+use Rattle.uts_geom.specs.Axes.{by_axes, inside_from_axes}
+use Rattle.uts_geom.specs.Laws.{SpansMeetInIndexes}
 
 lowest_common : (a b c d : ℤ) → int_lt (int_max a b) (int_min c d) ≡ true → (is_between a c (int_max a b) ≡ true) × (is_between b d (int_max a b) ≡ true)
 lowest_common a b c d some = (grind (arith, ints, clamps), grind (arith, ints, clamps))
@@ -39,10 +23,10 @@ meet_in_indexes a b = (
       let y = lowest_common a.lo.y b.lo.y a.hi.y b.hi.y on_y.0 in
       let z = lowest_common a.lo.z b.lo.z a.hi.z b.hi.z on_y.1 in
       let low = (meet_of a b).lo in
-      (low, inside a low (record { x = x.0; y = y.0; z = z.0 }), inside b low (record { x = x.1; y = y.1; z = z.1 })),
+      (low, inside_from_axes a low (record { x = x.0; y = y.0; z = z.0 }), inside_from_axes b low (record { x = x.1; y = y.1; z = z.1 })),
   λ (i, in_a, in_b).
-      let on_a = axes_of a i in_a in
-      let on_b = axes_of b i in_b in
+      let on_a = by_axes a i in_a in
+      let on_b = by_axes b i in_b in
       and_from _ _ (some_common a.lo.x b.lo.x a.hi.x b.hi.x i.x on_a.x on_b.x)
       (and_from _ _ (some_common a.lo.y b.lo.y a.hi.y b.hi.y i.y on_a.y on_b.y) (some_common a.lo.z b.lo.z a.hi.z b.hi.z i.z on_a.z on_b.z)),
 )
