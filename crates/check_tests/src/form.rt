@@ -1,7 +1,7 @@
 use problem_types::{
     BoxLine, Centring, Expr, Fold, Ghost, GhostKind, How, Keep, Level, Name, NoMemory, Num, Op,
-    Problem, Read, Reduction, Require, Store, Task, Var, What, Write, WriteKind, copy, in_form,
-    is_ascending, reduction_of, var_of,
+    Problem, Read, Reduction, Require, Store, Task, Var, What, Write, WriteKind,
+    are_layers_in_form, copy, in_form, is_ascending, reduction_of, var_of,
 };
 use sqlite_items::{Boxed, Items};
 use std::alloc::Global;
@@ -219,4 +219,16 @@ fn lines_are_below_2_to_the_31(rt: HostRuntime) -> Result<(), Fail> {
     problem.end_line = 2_147_483_648;
     assert!(rt; !in_form(&problem));
     Ok(())
+}
+
+#[test]
+fn layers_are_numbered_from_one_and_none_is_zero(rt: HostRuntime) {
+    for (kind, n, want) in [
+        (GhostKind::None, 0, true),
+        (GhostKind::None, 1, false),
+        (GhostKind::Cells, 0, false),
+        (GhostKind::FaceZ, 1, true),
+    ] {
+        assert_eq!(rt; are_layers_in_form(Ghost { kind, n }), want);
+    }
 }

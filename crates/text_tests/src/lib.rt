@@ -5,6 +5,8 @@
 #[cfg(test)]
 mod expressions;
 #[cfg(test)]
+mod pieces;
+#[cfg(test)]
 mod printable;
 #[cfg(test)]
 mod problems;
