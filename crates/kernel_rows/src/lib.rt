@@ -1,4 +1,4 @@
-//! Kernels evaluated a row of indexes at a time.
+//! Kernels evaluated a row of indexes at a time. `docs/model.md` states the arithmetic, and what a kernel sees.
 #![tactic(auto)]
 
 mod kernels;

@@ -1,4 +1,4 @@
-//! Kernels that run at each index of a span, row by row.
+//! Kernels that run at each index of a span, row by row. `docs/model.md` states what they compute.
 #![tactic(auto)]
 
 mod along;

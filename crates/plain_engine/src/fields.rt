@@ -7,13 +7,13 @@ ghost use Rattle.plain_engine.specs.Runnable.{IsRunnable, IsRunnableLine};
 
 use crate::kernels::kernel_numbers;
 use crate::moment::Moment;
-use crate::spaces::space_on;
 use crate::written::WrittenField;
 use problem_lookup::{centring_of, is_of_field};
 use problem_types::{Task, Write};
 use sqlite_items::Items;
 use std::alloc::AllocError;
 use task_check::bounds;
+use uts_model::space_on;
 
 /// The field that a line gives on a level and a material.
 fn written_field(
@@ -29,7 +29,7 @@ fn written_field(
     ensures { IfOk result (λ field. field ≡ written_of (problem_at moment.now) (field_change_at moment.now write.now level material)) }
 {
     let centring = centring_of(moment.checked.problem(), write.name);
-    let span = space_on(moment.checked, level, centring);
+    let span = space_on(moment.checked, level as usize, centring);
     let numbers = kernel_numbers(moment, &write.expr, level, material, span, scratch)?;
     Ok(WrittenField {
         name: write.name,

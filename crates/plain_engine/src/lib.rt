@@ -1,4 +1,4 @@
-//! Runs a problem on one thread, over whole fields.
+//! Runs a problem on one thread, over whole fields. `docs/model.md` states what it computes, and its dump.
 #![tactic(auto)]
 
 mod fields;
@@ -12,7 +12,6 @@ mod reducing;
 mod run;
 mod showing;
 mod shown;
-mod spaces;
 mod step;
 mod sweeping;
 mod tasks;

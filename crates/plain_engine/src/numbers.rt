@@ -11,7 +11,6 @@ ghost use Rattle.plain_engine.specs.Runnable.{IsRunnable, IsRunnableLine, Suffic
 use crate::kernels::kernel_fold;
 use crate::moment::Moment;
 use crate::reducing::Reducing;
-use crate::spaces::space_on;
 use crate::written::WrittenNumber;
 use problem_lookup::{fold_of, is_reduces};
 use problem_types::{Centring, Task, Write, WriteKind};
@@ -19,6 +18,7 @@ use reductions::identity;
 use sqlite_items::Items;
 use std::alloc::AllocError;
 use task_check::bounds;
+use uts_model::space_on;
 
 /// The kernel's numbers on a level and a material, combined with those before them.
 fn fold_material(
@@ -35,7 +35,7 @@ fn fold_material(
     ensures { result ≡ fold (combined reducing.now.how) total
         (map (kernel_at moment.now reducing.now.kernel.now level material) (indexes_of (problem_at moment.now) level reducing.now.centring)) }
 {
-    let span = space_on(moment.checked, level, reducing.centring);
+    let span = space_on(moment.checked, level as usize, reducing.centring);
     kernel_fold(
         reducing.how,
         total,

@@ -7,10 +7,10 @@ ghost use Rattle.problem_types.specs.Lists.{task_list};
 ghost use Rattle.problem_types.specs.Regions.{spaces_of};
 ghost use Rattle.plain_engine.specs.Runnable.{IsRunnable};
 
-use crate::spaces::space_on;
 use kernel_sweeps::{deepest_kernel, width};
 use problem_types::Centring;
 use task_check::{Checked, bounds};
+use uts_model::space_on;
 
 /// The length of the longest rows of a level: those of its nodes.
 fn row_length(c: &Checked, level: u32) -> usize
@@ -18,7 +18,7 @@ fn row_length(c: &Checked, level: u32) -> usize
     ensures wide { (k : Centring) (s : Span) → spaces_of c.now level k ≡ s ∷ [] → width_of s ≤ result }
     ensures narrow { result ≤ 4097 }
 {
-    width(space_on(c, level, Centring::Node))
+    width(space_on(c, level as usize, Centring::Node))
 }
 
 /// The length of the longest rows of a problem.

@@ -7,34 +7,25 @@ use Rattle.problem_types.specs.Lists.{task_list}
 use Rattle.problem_types.specs.declared.problem.Level.{Level}
 use Rattle.problem_types.specs.declared.problem.Problem.{Problem}
 use Rattle.problem_types.specs.declared.problem.Task.{Task}
-use Rattle.grid_levels.specs.Good.{HasGoodRatio}
 use Rattle.task_check.specs.Bounds.{IsBounded, IsBoundedTask, AreBoundedTasks}
 use Rattle.uts_model.specs.Evaluable.{IsEvaluable, IsEvaluableTask}
 use Rattle.uts_model.specs.Grids.{AreBoundedLevels}
-
-some_ratio : (level : ℕ) (l : Level) → HasGoodRatio level l → 1 ≤ l.ratio
-some_ratio zero l good = let one : l.ratio ≡ 1 = good.0 (omega arith) in omega arith
-some_ratio (suc level) l good = elim (good.1 (omega arith)) [ inl two ↦ omega (arith, two) | inr four ↦ omega (arith, four) ]
-
-small_ratio : (level : ℕ) (l : Level) → HasGoodRatio level l → l.ratio ≤ 4
-small_ratio zero l good = let one : l.ratio ≡ 1 = good.0 (omega arith) in omega arith
-small_ratio (suc level) l good = elim (good.1 (omega arith)) [ inl two ↦ omega (arith, two) | inr four ↦ omega (arith, four) ]
+use Rattle.uts_model.specs.Spaces.{good_ratio}
 
 -- what holds of each item, at a place
 holds_at : {A : Type 0} (P : A → Type 0) (xs : List A) (k : ℕ) (x : A) → All P xs → slice_get xs k ≡ Some x → P x
 holds_at P xs k x each at = rw (get_or_from_slice_get xs k x x at) at (each k x (slice_get_within xs k x at))
 
-module _ (p : Problem) (form : IsProblemInForm p) (bounds : IsBounded p) where
-  levels : AreBoundedLevels p
-  levels = record {
-    few = bounds.few_levels;
-    each = λ level l at. record {
-      limits = (bounds.levels level l at).limits;
-      some_ratio = some_ratio level l (bounds.levels level l at).good.ratio;
-      small_ratio = small_ratio level l (bounds.levels level l at).good.ratio;
-    };
-  }
+pub bounded_levels : (p : Problem) → IsBounded p → AreBoundedLevels p
+bounded_levels p bounds = record {
+  few = bounds.few_levels;
+  each = λ level l at. record {
+    limits = (bounds.levels level l at).limits;
+    ratio = good_ratio level l (bounds.levels level l at).good.ratio;
+  };
+}
 
+module _ (p : Problem) (form : IsProblemInForm p) (bounds : IsBounded p) where
   tasks_in_form : (step : ℕ) → AreTasksInForm (length p.names) (task_list p step)
   tasks_in_form zero = form.init
   tasks_in_form (suc n) = form.timestep
@@ -52,7 +43,7 @@ module _ (p : Problem) (form : IsProblemInForm p) (bounds : IsBounded p) where
 
   pub evaluable : IsEvaluable p
   evaluable = record {
-    levels = levels;
+    levels = bounded_levels p bounds;
     few_tasks = λ step. (bounded_tasks step).few;
     tasks = λ step place t at. task t
         (holds_at (IsTaskInForm (length p.names)) (task_list p step) place t (tasks_in_form step).each at)

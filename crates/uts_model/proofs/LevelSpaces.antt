@@ -1,12 +1,11 @@
 -- The index space of a level, which has one box, as one span.
-use Rattle.std.proofs.Common.{◌≡◌, ◌∙◌, ap, sym, refl, arith, ℕ, suc, ℤ, List, [], ◌∷◌, Bool, true, false, Some, None, Option}
+use Rattle.std.proofs.Common.{◌≡◌, ◌∙◌, ◌<◌, inl, inr, ap, sym, refl, arith, ℕ, suc, length, ℤ, List, [], ◌∷◌, Bool, true, false, Some, None, Option}
 use Rattle.std.specs.Prelude.{◌||◌, ◌&&◌, All, slice_get, map}
 use Rattle.std.specs.List.{list_any, flat_map}
 use Rattle.std.specs.Option.{option_map_or}
 use Rattle.std.proofs.lemmas.Bool.{and_parts, false≢true}
 use Rattle.std.proofs.lemmas.Int.{ints}
-use Rattle.std.proofs.lemmas.List.{append-nil}
-use Rattle.std.proofs.lemmas.Option.{slice_get_within}
+use Rattle.std.proofs.lemmas.Option.{slice_get_within, slice_get_cases}
 use Rattle.uts_geom.specs.Spans.{is_between, is_inside, indexes_of, IsNear}
 use Rattle.uts_geom.specs.declared.centring.Centring.{Centring}
 use Rattle.uts_geom.specs.declared.index.Index.{Index}
@@ -18,10 +17,7 @@ use Rattle.problem_types.specs.declared.problem.Level.{Level}
 use Rattle.problem_types.specs.declared.problem.Problem.{Problem}
 use Rattle.problem_types.specs.NearSpaces.{IsOnAxis, IsOnGrid, IsOnGridSpan, near_index, space_on_grid}
 use Rattle.uts_model.specs.Grids.{AreBoundedLevels, IsOnLevel}
-
-or_false : (b : Bool) → (b || false) ≡ b
-or_false true = refl
-or_false false = refl
+use Rattle.uts_model.specs.Spaces.{spaces_at}
 
 between_on_axis : (low high n : ℤ) → is_between low high n ≡ true → IsOnAxis low → IsOnAxis high → IsOnAxis n
 between_on_axis low high n between a b = (grind (arith, ints), grind (arith, ints))
@@ -41,9 +37,6 @@ module _ (p : Problem) (level : ℕ) (l : Level) (at : Some l ≡ slice_get p.le
   pub ratio_at : ratio_of p level ≡ l.ratio
   ratio_at = ap (λ (o : Option Level). option_map_or (λ (k : Level). k.ratio) o 1) (sym at)
 
-  pub spaces_at : (c : Centring) → spaces_of p level c ≡ spaces_on c l
-  spaces_at c = ap (λ (o : Option Level). option_map_or (λ (k : Level). map (space_of c) k.boxes) o []) (sym at)
-
   pub on_level_at : (i : Index) → IsOnGrid i → IsOnLevel p level i
   on_level_at i on = record { level_there = slice_get_within p.levels level l (sym at); on_grid = on }
 
@@ -52,16 +45,14 @@ module _ (p : Problem) (level : ℕ) (none : None ≡ slice_get p.levels level) 
   pub ratio_of_none : ratio_of p level ≡ 1
   ratio_of_none = ap (λ (o : Option Level). option_map_or (λ (k : Level). k.ratio) o 1) (sym none)
 
+  pub not_there : level < length p.levels → ⊥
+  not_there below = elim (slice_get_cases p.levels level).1 [
+    | inl (l, within, at, same) ↦ cc
+    | inr past ↦ omega (arith, past.0)
+  ]
+
   pub spaces_of_none : (c : Centring) → spaces_of p level c ≡ []
   spaces_of_none c = ap (λ (o : Option Level). option_map_or (λ (k : Level). map (space_of c) k.boxes) o []) (sym none)
-
--- where there is one space, it is the level's
-module _ (p : Problem) (level : ℕ) (c : Centring) (s : Span) (one : spaces_of p level c ≡ s ∷ []) where
-  pub inside_one : (i : Index) → is_in_space p level c i ≡ is_inside s i
-  inside_one i = ap (λ (spaces : List Span). list_any (λ t. is_inside t i) spaces) one ∙ or_false (is_inside s i)
-
-  pub indexes_of_one : indexes_on p level c ≡ indexes_of s
-  indexes_of_one = ap (λ (spaces : List Span). flat_map indexes_of spaces) one ∙ append-nil (indexes_of s)
 
 in_some_space : (c : Centring) (i : Index) (boxes : List BoxLine) → All HasNearBounds boxes →
     list_any (λ s. is_inside s i) (map (space_of c) boxes) ≡ true → IsOnGrid i
@@ -83,4 +74,4 @@ inside_near p level c i bounded inside = by_level (slice_get p.levels level) ref
         absurd (false≢true (sym (ap (λ (spaces : List Span). list_any (λ s. is_inside s i) spaces) (spaces_of_none p level none c)) ∙ inside))
     by_level (Some l) at =
         near_index i (in_some_space c i l.boxes (bounded.each level l (sym at)).limits.boxes
-        (sym (ap (λ (spaces : List Span). list_any (λ s. is_inside s i) spaces) (spaces_at p level l at c)) ∙ inside))
+        (sym (ap (λ (spaces : List Span). list_any (λ s. is_inside s i) spaces) (spaces_at p level c l (sym at))) ∙ inside))

@@ -10,3 +10,4 @@ pub mod ReadForms
 pub mod Expressions
 pub mod Shallow
 pub mod Accepted
+pub mod Narrow

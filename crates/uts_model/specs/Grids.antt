@@ -10,12 +10,12 @@ use Rattle.problem_types.specs.Levels.{KeepsGridLimits}
 use Rattle.problem_types.specs.NearSpaces.{IsOnGrid}
 use Rattle.problem_types.specs.declared.problem.Level.{Level}
 use Rattle.problem_types.specs.declared.problem.Problem.{Problem}
+use Rattle.uts_model.specs.Spaces.{IsRatio}
 
--- a level within the limits of the grid, of a ratio from 1 to 4
+-- a level within the limits of the grid, of a ratio that levels may have
 pub record IsBoundedLevel (l : Level) : Type 0 where
   pub limits : KeepsGridLimits l
-  pub some_ratio : 1 ≤ l.ratio
-  pub small_ratio : l.ratio ≤ 4
+  pub ratio : IsRatio l.ratio
 
 pub record AreBoundedLevels (p : Problem) : Type 0 where
   pub few : length p.levels ≤ 4

@@ -6,3 +6,4 @@ pub mod Kernels
 pub mod Grids
 pub mod Evaluable
 pub mod Folds
+pub mod Spaces

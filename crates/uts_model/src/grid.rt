@@ -1,12 +1,13 @@
 //! Levels as spans: index spaces, children, coarse indexes, and the indexes of a span by place.
-ghost use Rattle.std.specs.Prelude.{◌≡◌, ◌<◌, ◌≤◌, ◌+ℤ◌, ◌*ℤ◌, ◌<ℤ◌, ◌≤ℤ◌, ℕ, pos, Some, length, slice_get, IsTrue};
+ghost use Rattle.std.specs.Prelude.{◌≡◌, ◌<◌, ◌≤◌, ◌+ℤ◌, ◌*ℤ◌, ◌<ℤ◌, ◌≤ℤ◌, ◌∷◌, [], ℕ, pos, Some, length, slice_get, IsTrue};
 ghost use Rattle.std.specs.Int.{int_gap};
 ghost use Rattle.std.specs.Option.{option_copied};
-ghost use Rattle.uts_geom.specs.Spans.{is_inside, index, indexes_of, IsNearNumber, IsNearSpan};
+ghost use Rattle.uts_geom.specs.Spans.{is_inside, index, indexes_of, width_of, IsNearNumber, IsNearSpan};
 ghost use Rattle.uts_geom.specs.declared.index.Index.{Index};
-ghost use Rattle.problem_types.specs.Regions.{is_in_space, indexes_of as indexes_on, moved, offset_of, ratio_of, coarse_index, children_of};
+ghost use Rattle.problem_types.specs.Regions.{is_in_space, moved, offset_of, ratio_of, coarse_index, children_of, spaces_of};
 ghost use Rattle.problem_types.specs.NearSpaces.{IsOnAxis, IsOnGrid};
 ghost use Rattle.uts_model.specs.Grids.{AreBoundedLevels, IsOnLevel, IsSameOrFar, IsSameOrFarNumber, all_children, children_end};
+ghost use Rattle.uts_model.specs.Spaces.{IsRatio, IsSpaceOn};
 
 use patch_regions::index_space;
 use problem_types::{Centring, Level, Problem};
@@ -20,10 +21,10 @@ fn at(x: i64, y: i64, z: i64) -> Index
 }
 
 /// The level of this number.
-fn level_at(problem: &Problem, level: u32) -> Option<&Level>
+fn level_at(problem: &Problem, level: usize) -> Option<&Level>
     ensures { option_copied result ≡ slice_get problem.now.levels level }
 {
-    problem.levels.as_slice().get(level as usize)
+    problem.levels.as_slice().get(level)
 }
 
 /// A span without indexes.
@@ -37,11 +38,11 @@ fn empty_span() -> Span
 }
 
 /// The index space of a level, without indexes where there is no such level.
-pub(crate) fn space(problem: &Problem, level: u32, c: Centring) -> Span
+pub(crate) fn space(problem: &Problem, level: usize, c: Centring) -> Span
     requires { AreBoundedLevels problem.now }
-    ensures inside { (i : Index) → is_in_space problem.now level c i ≡ is_inside result i }
-    ensures indexes { indexes_on problem.now level c ≡ indexes_of result }
-    ensures near { IsNearSpan result }
+    ensures space { IsSpaceOn problem.now level c result }
+    ensures only { level < length problem.now.levels → spaces_of problem.now level c ≡ result ∷ [] }
+    ensures narrow { width_of result ≤ 4097 }
     ensures on_level { (i : Index) → IsTrue (is_inside result i) → IsOnLevel problem.now level i }
 {
     match level_at(problem, level) {
@@ -56,18 +57,19 @@ pub(crate) fn is_in_space(problem: &Problem, level: u32, c: Centring, i: Index) 
     ensures inside { result ≡ is_in_space problem.now level c i }
     ensures on_level { IsTrue result → IsOnLevel problem.now level i }
 {
-    contains(space(problem, level, c), i)
+    contains(space(problem, level as usize, c), i)
 }
 
 /// The refinement ratio of a level to the next coarser one, 1 where there is no such level.
-fn ratio(problem: &Problem, level: u32) -> i64
+pub(crate) fn ratio(problem: &Problem, level: usize) -> u64
     requires { AreBoundedLevels problem.now }
-    ensures ratio { result ≡ pos (ratio_of problem.now level) }
-    ensures some { 1 ≤ ratio_of problem.now level }
-    ensures small { ratio_of problem.now level ≤ 4 }
+    ensures ratio { result ≡ ratio_of problem.now level }
+    ensures good { IsRatio result }
+    ensures some { 1 ≤ result }
+    ensures small { result ≤ 4 }
 {
     match level_at(problem, level) {
-        Some(l) => l.ratio as i64,
+        Some(l) => l.ratio,
         None => 1,
     }
 }
@@ -77,7 +79,7 @@ pub(crate) fn coarse_index(problem: &Problem, level: u32, i: Index) -> Index
     requires { AreBoundedLevels problem.now }
     ensures { result ≡ coarse_index (ratio_of problem.now level) i }
 {
-    let ratio = ratio(problem, level);
+    let ratio = ratio(problem, level as usize) as i64;
     at(
         i.x.div_euclid(ratio),
         i.y.div_euclid(ratio),
@@ -152,9 +154,9 @@ pub(crate) fn children(problem: &Problem, level: u32, c: Centring, i: Index) -> 
     ensures children { indexes_of result ≡ children_of problem.now level c i }
     ensures near { IsNearSpan result }
 {
-    let finer = level + 1;
+    let finer = level as usize + 1;
     meet(
-        all_children(ratio(problem, finer), c, i),
+        all_children(ratio(problem, finer) as i64, c, i),
         space(problem, finer, c),
     )
 }

@@ -207,7 +207,11 @@ fn over_indexes(line: &Reducing, f: Fold, before: i64, level: u32, material: u32
     requires { IsReducing line.now }
     ensures { result ≡ fold (combined f) before (numbers_on line.now level material) }
 {
-    let span = space(line.problem, level, reduced_centring(line.write.kind));
+    let span = space(
+        line.problem,
+        level as usize,
+        reduced_centring(line.write.kind),
+    );
     let mut total = before;
     for k in 0..volume(span) {
         let place = Place {

@@ -13,7 +13,7 @@ use Rattle.uts_geom.specs.declared.span.Span.{Span}
 use Rattle.problem_types.specs.Regions.{children_along, children_of, is_in_space, ratio_of}
 use Rattle.problem_types.specs.declared.problem.Problem.{Problem}
 use Rattle.whole_fields.specs.Children.{children_in, children_on_x, children_on_y, children_on_z}
-use Rattle.whole_fields.specs.Views.{IsSpaceOn}
+use Rattle.uts_model.specs.Spaces.{IsSpaceOn}
 
 filter-flat_map : {A B : Type 0} (p : B → Bool) (f : A → List B) (items : List A) → filter p (flat_map f items) ≡ flat_map (λ a. filter p (f a)) items
 filter-flat_map p f [] = refl

@@ -17,23 +17,7 @@ use Rattle.problem_types.specs.declared.problem.BoxLine.{BoxLine}
 use Rattle.problem_types.specs.declared.problem.Level.{Level}
 use Rattle.problem_types.specs.declared.problem.Problem.{Problem}
 use Rattle.task_check.specs.Bounds.{IsBounded}
-use Rattle.whole_fields.specs.Views.{IsSpaceOn}
-
-or_none : (b : Bool) → (b || false) ≡ b
-or_none true = refl
-or_none false = refl
-
--- the index space of a level that the problem has
-pub space_on_level : (p : Problem) (level : ℕ) (c : Centring) (l : Level) (s : Span) → slice_get p.levels level ≡ Some l → KeepsGridLimits l →
-    spaces_on c l ≡ s ∷ [] → IsSpaceOn p level c s
-space_on_level p level c l s at limits one =
-    let whole : spaces_of p level c ≡ s ∷ [] = ap (λ (o : Option Level). option_map_or (λ (m : Level). map (space_of c) m.boxes) o []) at ∙ one in
-    record {
-      near = level_near c l s limits one;
-      inside = λ i. ap (list_any (λ (t : Span). is_inside t i)) whole ∙ or_none (is_inside s i);
-      indexes = ap (flat_map indexes_of) whole ∙ append-nil (indexes_of s);
-      rows = λ y z. ap (flat_map (λ (t : Span). row_indexes t y z)) whole ∙ append-nil (row_indexes s y z);
-    }
+use Rattle.uts_model.specs.Spaces.{IsSpaceOn, space_on_level}
 
 one_item : {A : Type 0} (items : List A) → length items ≡ 1 → (item : A) × (items ≡ item ∷ [])
 one_item [] one = absurd cc

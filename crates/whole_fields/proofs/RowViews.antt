@@ -19,7 +19,8 @@ use Rattle.problem_types.specs.Regions.{is_in_space, indexes_of as indexes_on_le
 use Rattle.problem_types.specs.declared.problem.Problem.{Problem}
 use Rattle.whole_fields.specs.Stored.{number_among, number_of_field, blank_of}
 use Rattle.whole_fields.specs.declared.warehouse.Warehouse.{Warehouse}
-use Rattle.whole_fields.specs.Views.{IsSpaceOn, number_in, number_along}
+use Rattle.uts_model.specs.Spaces.{IsSpaceOn}
+use Rattle.whole_fields.specs.Views.{number_in, number_along}
 use Rattle.whole_fields.proofs.Among.{number_at_place}
 use Rattle.whole_fields.proofs.Lists.{map_alike}
 use Rattle.whole_fields.proofs.RowsTogether.{get_in_row, row_within}

@@ -1,5 +1,5 @@
 -- The children of an index that lie in a span, and what folds over them give.
-use Rattle.std.specs.Prelude.{◌≡◌, ℕ, ◌<◌, ◌⊎◌, ℤ, pos, ◌+ℤ◌, Bool, List, length, map, fold, filter, slice_index_or, if◌then◌else◌}
+use Rattle.std.specs.Prelude.{◌≡◌, ℕ, ◌<◌, ℤ, pos, ◌+ℤ◌, Bool, List, length, map, fold, filter, slice_index_or, if◌then◌else◌}
 use Rattle.std.specs.List.{flat_map}
 use Rattle.uts_geom.specs.Centrings.{is_point_like}
 use Rattle.uts_geom.specs.Spans.{index, is_between, counted}
@@ -10,10 +10,6 @@ use Rattle.uts_geom.specs.declared.span.Span.{Span}
 use Rattle.problem_types.specs.Regions.{children_along}
 use Rattle.problem_types.specs.declared.problem.Fold.{Fold}
 use Rattle.reductions.specs.Folding.{combined}
-
--- a level is refined by 1, 2 or 4
-abbrev pub IsRatio : ℕ → Type 0
-IsRatio ratio = (ratio ≡ 1) ⊎ ((ratio ≡ 2) ⊎ (ratio ≡ 4))
 
 -- so many numbers, from the first on
 abbrev pub stretch : ℤ → ℕ → List ℤ

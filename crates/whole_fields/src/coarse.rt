@@ -2,7 +2,7 @@
 ghost use Rattle.std.specs.Prelude.{◌≡◌, ◌+ℤ◌, pos, length, map};
 ghost use Rattle.std.specs.Int.{int_gap, int_div_euclid};
 ghost use Rattle.uts_geom.specs.Spans.{counted};
-ghost use Rattle.whole_fields.specs.Children.{IsRatio};
+ghost use Rattle.uts_model.specs.Spaces.{IsRatio};
 ghost use Rattle.whole_fields.specs.Views.{number_along};
 
 use crate::views::FieldRow;

@@ -1,10 +1,10 @@
 //! Warehouses of whole fields: the numbers of each variable over the whole index space of a level.
+//! `docs/model.md` states what they hold, and what a kernel sees of them.
 #![tactic(auto)]
 
 mod coarse;
 mod fine;
 mod shapes;
-mod spaces;
 mod stores;
 mod views;
 mod warehouse;

@@ -8,21 +8,22 @@ ghost use Rattle.problem_types.specs.Regions.{children_of, coarse_index, moved, 
 ghost use Rattle.problem_types.specs.declared.problem.Problem.{Problem};
 ghost use Rattle.reductions.specs.Folding.{all_combined};
 ghost use Rattle.uts_geom.specs.declared.index.Index.{Index};
+ghost use Rattle.uts_model.specs.Spaces.{IsSpaceOn};
 ghost use Rattle.uts_model.specs.WholeField.{State, number_read, store_of};
 ghost use Rattle.whole_fields.specs.Shapes.{IsShapesOf};
 ghost use Rattle.whole_fields.specs.Stored.{IsWarehouseOf, state_of};
-ghost use Rattle.whole_fields.specs.Views.{IsSpaceOn, number_in};
+ghost use Rattle.whole_fields.specs.Views.{number_in};
 
 use crate::coarse::{coarse, fill_coarse};
 use crate::fine::FineFold;
 use crate::shapes::Shapes;
-use crate::spaces::ratio_on;
 use crate::views::{FieldView, ones};
 use crate::warehouse::Warehouse;
 use kernel_ast::{How, Read, Store};
 use kernel_rows::{KernelRow, Reads};
 use reductions::Fold;
 use task_check::Checked;
+use uts_model::ratio_on;
 
 /// The two stores of kernels that run on a material and a level: what the step before left, and what the tasks before left.
 #[derive(Drop)]

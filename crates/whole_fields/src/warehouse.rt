@@ -4,19 +4,20 @@ ghost use Rattle.uts_geom.specs.Spans.{row_indexes};
 ghost use Rattle.uts_geom.specs.declared.index.Index.{Index};
 ghost use Rattle.problem_types.specs.Lists.{centring_of};
 ghost use Rattle.problem_types.specs.Regions.{indexes_of, spaces_of};
+ghost use Rattle.uts_model.specs.Spaces.{IsSpaceOn};
 ghost use Rattle.uts_model.specs.WholeField.{nothing, unset};
 ghost use Rattle.whole_fields.specs.Stored.{IsWarehouseOf, field_place, state_of, stored_field, with_field, with_reduction};
 ghost use Rattle.whole_fields.specs.Shapes.{IsShapesOf, shape_of};
-ghost use Rattle.whole_fields.specs.Views.{IsSpaceOn, number_in};
+ghost use Rattle.whole_fields.specs.Views.{number_in};
 
 use crate::NoMemory;
 use crate::shapes::{Shape, Shapes};
-use crate::spaces::space_on;
 use crate::views::FieldView;
 use sqlite_items::Items;
 use std::alloc::Global;
 use task_check::{Checked, bounds};
 use uts_geom::{indexes_stand_once, spans_hold_their_indexes};
+use uts_model::space_on;
 
 /// The fields and the reductions of a problem at a moment of its run. A field has a number for each index of its index space, x
 /// fastest, then y, then z.

@@ -1,10 +1,9 @@
 use Rattle.std.proofs.Common.{◌∙◌, List, ℤ, map, ap, sym}
 use Rattle.problem_types.specs.Lists.{centring_of}
-use Rattle.problem_types.specs.Regions.{spaces_of}
+use Rattle.problem_types.specs.Regions.{indexes_of}
 use Rattle.problem_types.specs.declared.problem.Problem.{Problem}
 use Rattle.plain_engine.specs.Moments.{kernel_at}
 use Rattle.plain_engine.specs.declared.written.WrittenField.{WrittenField}
-use Rattle.plain_engine.proofs.SmallSpans.{indexes_on_one}
 use Rattle.plain_engine.proofs.fields.written_field.Goals as goal
 
 pub returns : goal.returns
@@ -13,7 +12,7 @@ returns c =
     let p = moment.checked.now in
     let write = c.args.write.now in
     let centring = c.centring_of-centring.ensures ∙ ap (λ (q : Problem). centring_of q write.name) c.problem.ensures.problem in
-    let spaces = ap (spaces_of p c.args.level) (sym centring) ∙ c.space_on-span.ensures.only in
+    let indexes = ap (indexes_of p c.args.level) (sym centring) ∙ c.space_on-span.ensures.space.indexes in
     let numbers = c.in_ok-numbers.ensures
-    ∙ ap (map (kernel_at moment write.expr c.args.level c.args.material)) (indexes_on_one p c.args.level (centring_of p write.name) c.space_on-span.result spaces) in
+    ∙ ap (map (kernel_at moment write.expr c.args.level c.args.material)) (sym indexes) in
     ap (λ (numbers : List ℤ). let field : WrittenField = record { name = write.name; material = c.args.material; level = c.args.level; numbers = numbers } in field) numbers

@@ -162,7 +162,7 @@ over_indexes-loop-k-preserved t c =
     let start : FitsSigned w64 c.args.before = search rules in
     let at : slice_get (indexes_on p c.args.level (reduced_centring line.write.now.kind)) c.loop-k.k ≡ Some c.index_at.result =
     ap (λ (xs : List Index). slice_get xs c.loop-k.k)
-    (ap (λ (k : Centring). indexes_on p c.args.level k) (sym c.reduced_centring.ensures) ∙ c.space-span.ensures.indexes)
+    (ap (λ (k : Centring). indexes_on p c.args.level k) (sym c.reduced_centring.ensures) ∙ c.space-span.ensures.space.indexes)
     ∙ c.index_at.ensures.at in
     let numbers = numbers_on line c.args.level c.args.material in
     let so_far : to_z w64 c.loop-k.total-bits ≡ fold (combined c.args.f) c.args.before (take c.loop-k.k numbers) = simp to_z-of_z at c.loop-k.invariant in
@@ -180,7 +180,7 @@ over_indexes-returns t c =
     let whole : length (numbers_on line c.args.level c.args.material) ≡ length (indexes_of c.space-span.result) =
     length-numbers_on line c.args.level c.args.material
     ∙ ap (λ (k : Centring). length (indexes_on p c.args.level k)) (sym c.reduced_centring.ensures)
-    ∙ ap length c.space-span.ensures.indexes in
+    ∙ ap length c.space-span.ensures.space.indexes in
     let start : FitsSigned w64 c.args.before = search rules in
     let numbers = numbers_on line c.args.level c.args.material in
     let so_far : to_z w64 c.loop-k.total-bits ≡ fold (combined c.args.f) c.args.before (take c.loop-k.k numbers) = simp to_z-of_z at c.loop-k.invariant in

@@ -1,7 +1,8 @@
 use Rattle.std.proofs.Common.{if◌then◌else◌, ◌≡◌, ◌∙◌, ℤ, pos, List, ap, rules, w64, FitsSigned, subst}
 use Rattle.std.proofs.lemmas.Int.{to_z-of_z}
 use Rattle.whole_fields.specs.Stored.{state_of, stored_field, blank_of}
-use Rattle.whole_fields.specs.Views.{IsSpaceOn, number_in}
+use Rattle.uts_model.specs.Spaces.{IsSpaceOn}
+use Rattle.whole_fields.specs.Views.{number_in}
 use Rattle.whole_fields.specs.declared.shapes.Shape.{Shape}
 use Rattle.whole_fields.proofs.RowViews.{number_stored}
 use Rattle.whole_fields.proofs.warehouse.Warehouse.view.Goals as goal
@@ -14,7 +15,7 @@ returns-clause-numbers c =
     let name = c.args.name in
     let s = c.space_on.result in
     let fits : FitsSigned w64 c.blank.result = search rules in
-    let space = subst (λ (shape : Shape). IsSpaceOn p c.args.level shape.centring s) c.requires.shape c.space_on.ensures in
+    let space = subst (λ (shape : Shape). IsSpaceOn p c.args.level shape.centring s) c.requires.shape c.space_on.ensures.space in
     let blank : c.blank.result ≡ blank_of p w name = c.blank.ensures ∙ ap (λ (shape : Shape). if w.is_before then pos 0 else shape.outside) c.requires.shape in
     λ i.
     ap (λ (b : ℤ). number_in s c.stored.result.now b i) (to_z-of_z w64 c.blank.result fits)

@@ -1,4 +1,4 @@
--- The index spaces of levels within the limits of the grid.
+-- Which index space of a level has the longest rows.
 use Rattle.std.proofs.Common.{◌≡◌, ◌∙◌, ◌≤◌, ◌+◌, ℕ, pos, List, [], ◌∷◌, map, Bool, true, false, Option, Some, None, ap, subst, sym, refl, arith, append-nil, All}
 use Rattle.std.specs.Prelude.{slice_get, slice_index}
 use Rattle.std.specs.Int.{int_gap}
@@ -18,30 +18,6 @@ use Rattle.problem_types.specs.Regions.{end_of, indexes_of, space_of, spaces_of,
 use Rattle.problem_types.specs.declared.problem.BoxLine.{BoxLine}
 use Rattle.problem_types.specs.declared.problem.Level.{Level}
 use Rattle.problem_types.specs.declared.problem.Problem.{Problem}
-
--- coordinates of a span are near, and its rows short
-pub record IsSmallSpan (s : Span) : Type 0 where
-  pub near : IsNearSpan s
-  pub narrow : width_of s ≤ 4097
-
-short_row : (s : Span) (point : Bool) (low high : ℕ) → s.lo.x ≡ pos low → s.hi.x ≡ end_of point high → high ≤ 4096 → width_of s ≤ 4097
-short_row s true low high begins ends small = rw (begins, ends) (omega arith)
-short_row s false low high begins ends small = rw (begins, ends) (omega arith)
-
-space_small : (c : Centring) (b : BoxLine) → HasNearBounds b → IsSmallSpan (space_of c b)
-space_small c b near = record {
-  near = space_near c b near;
-  narrow = short_row (space_of c b) _ (slice_index b.lo 0) (slice_index b.hi 0) refl refl (near 0 (omega arith)).1;
-}
-
-small_in : (c : Centring) (boxes : List BoxLine) (s : Span) → All HasNearBounds boxes → map (space_of c) boxes ≡ s ∷ [] → IsSmallSpan s
-small_in c [] s near one = absurd cc
-small_in c (b ∷ boxes) s near one =
-    let same : space_of c b ≡ s = cc in
-    subst IsSmallSpan same (space_small c b (All-head HasNearBounds b boxes near))
-
-pub space_is_small : (c : Centring) (l : Level) (s : Span) → KeepsGridLimits l → spaces_on c l ≡ s ∷ [] → IsSmallSpan s
-space_is_small c l s limits one = small_in c l.boxes s limits.boxes one
 
 longest_on_points : (point : Bool) (low high : ℕ) → int_gap (pos low) (end_of point high) ≤ int_gap (pos low) (pos (high + 1))
 longest_on_points true low high = omega arith
@@ -66,12 +42,3 @@ nodes_longest_on c (Some l) nodes s all one = nodes_longest_in c l.boxes nodes s
 pub nodes_longest : (p : Problem) (level : ℕ) (c : Centring) (nodes s : Span) → spaces_of p level Node ≡ nodes ∷ [] → spaces_of p level c ≡ s ∷ [] →
     width_of s ≤ width_of nodes
 nodes_longest p level c nodes s all one = nodes_longest_on c (slice_get p.levels level) nodes s all one
-
--- the index space of a level that the problem has
-pub space_at : (p : Problem) (level : ℕ) (c : Centring) (l : Level) (s : Span) → slice_get p.levels level ≡ Some l → spaces_on c l ≡ s ∷ [] →
-    spaces_of p level c ≡ s ∷ []
-space_at p level c l s at one = ap (λ (o : Option Level). option_map_or (λ (m : Level). map (space_of c) m.boxes) o []) at ∙ one
-
--- the indexes of a level with one index space are those of the space
-pub indexes_on_one : (p : Problem) (level : ℕ) (c : Centring) (s : Span) → spaces_of p level c ≡ s ∷ [] → indexes_of_span s ≡ indexes_of p level c
-indexes_on_one p level c s one = sym (ap (flat_map indexes_of_span) one ∙ append-nil (indexes_of_span s))
