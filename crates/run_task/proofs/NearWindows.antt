@@ -31,6 +31,7 @@ use Rattle.ghost_rules.specs.declared.along.Along.{Along}
 use Rattle.ghost_rules.specs.declared.along.Along.TheVariants.{Nothing, Intervals, Points, Own}
 use Rattle.ghost_rules.specs.declared.seen.Seen.{Seen}
 use Rattle.ghost_rules.specs.declared.seen.Seen.TheVariants as seen
+use Rattle.uts_model.specs.Spaces.{IsRatio}
 use Rattle.task_check.specs.Plan.{refined, wanted_window, window_seen}
 use Rattle.task_check.specs.Supplies.{layers_of, seen_by_kind, seen_of}
 
@@ -67,10 +68,6 @@ window_near layers c s few on = record {
 }
 
 -- ---- patches on the next coarser level, and on the next finer one
-
--- a refinement ratio
-abbrev pub IsRatio : ℕ → Type 0
-IsRatio ratio = (ratio ≡ 1) ⊎ ((ratio ≡ 2) ⊎ (ratio ≡ 4))
 
 divided_on_grid : (ratio : ℕ) (n : ℤ) → IsRatio ratio → IsOnAxis n → IsOnAxis (int_div_euclid n (pos ratio))
 divided_on_grid ratio (negsuc n) is on = let from = on.0 in absurd (omega (arith, ints, from))

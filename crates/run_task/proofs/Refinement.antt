@@ -5,15 +5,8 @@ use Rattle.std.specs.Option.{option_map_or}
 use Rattle.problem_types.specs.Regions.{ratio_of}
 use Rattle.problem_types.specs.declared.problem.Level.{Level}
 use Rattle.problem_types.specs.declared.problem.Problem.{Problem}
-use Rattle.task_check.specs.Bounds.{IsBounded, IsBoundedLevel}
-use Rattle.run_task.proofs.NearWindows.{IsRatio}
-
-pub ratio_is : (p : Problem) (level : ℕ) (l : Level) → slice_get p.levels level ≡ Some l → ratio_of p level ≡ l.ratio
-ratio_is p level l at = ap (λ (o : Option Level). option_map_or (λ (m : Level). m.ratio) o 1) at
-
-pub good_ratio : (p : Problem) (level : ℕ) (l : Level) → IsBoundedLevel p level l → IsRatio l.ratio
-good_ratio p zero l bounded = inl (bounded.good.ratio.0 refl)
-good_ratio p (suc level) l bounded = inr (bounded.good.ratio.1 (omega arith))
+use Rattle.task_check.specs.Bounds.{IsBounded}
+use Rattle.uts_model.specs.Spaces.{IsRatio, good_ratio}
 
 pub small_ratio : (ratio : ℕ) → IsRatio ratio → ratio ≤ 4
 small_ratio ratio (inl one) = omega (arith, one)
@@ -26,4 +19,4 @@ any_ratio p level bounds = by_level (slice_get p.levels level) refl
   where
     by_level : (o : Option Level) → slice_get p.levels level ≡ o → IsRatio (option_map_or (λ (m : Level). m.ratio) o 1)
     by_level None at = inl refl
-    by_level (Some l) at = good_ratio p level l (bounds.levels level l at)
+    by_level (Some l) at = good_ratio level l (bounds.levels level l at).good.ratio

@@ -25,6 +25,7 @@ use task_check::{
     Checked, accepted_problems_are_bounded, bounds, level_at, wanted_level, wanted_window,
 };
 use task_rules::wanted_name;
+use uts_model::ratio_on;
 
 /// Whether a reduction is required.
 fn is_of_number(what: What) -> bool
@@ -47,13 +48,11 @@ fn form_of(what: What) -> How
     }
 }
 
-/// The refinement ratio of a level to the next coarser one.
-fn ratio_on(c: &Checked, level: u32) -> i64
-    requires { level < length c.now.levels }
+/// The refinement ratio of a level to the next coarser one, signed as coordinates are.
+fn signed_ratio(c: &Checked, level: u32) -> i64
     ensures { result ≡ pos (ratio_of c.now level) }
 {
-    bounds(c);
-    level_at(c.problem(), u64::from(level)).ratio as i64
+    ratio_on(c, level as usize) as i64
 }
 
 /// The ratio between the level of a task and the one that is wanted, 1 on one level.
@@ -65,8 +64,8 @@ fn ratio_wanted(c: &Checked, what: What, level: u32) -> i64
     bounds(c);
     match what {
         What::Same { .. } | What::Number { .. } => 1,
-        What::Coarse { .. } => ratio_on(c, level),
-        What::Fine { .. } => ratio_on(c, level + 1),
+        What::Coarse { .. } => signed_ratio(c, level),
+        What::Fine { .. } => signed_ratio(c, level + 1),
     }
 }
 
