@@ -8,7 +8,7 @@ use std::alloc::Global;
 use std::test::Fail;
 use task_check::{Fault, FaultKind, Refusal, Which, check};
 
-fn one<T: Drop>(alloc: Global, item: T) -> Result<Items<T>, NoMemory> {
+pub(crate) fn one<T: Drop>(alloc: Global, item: T) -> Result<Items<T>, NoMemory> {
     let mut items = Items::new(alloc);
     items.push(item)?;
     Ok(items)
@@ -39,7 +39,7 @@ fn level(alloc: Global, high: [u64; 3]) -> Result<Level, NoMemory> {
     })
 }
 
-fn variable(line: u32, name: u32) -> Var {
+pub(crate) fn variable(line: u32, name: u32) -> Var {
     Var {
         line,
         name,
@@ -49,7 +49,13 @@ fn variable(line: u32, name: u32) -> Var {
 }
 
 /// A task that computes `u`, on the line `write`.
-fn task(alloc: Global, line: u32, name: u32, write: u32, expr: Expr) -> Result<Task, NoMemory> {
+pub(crate) fn task(
+    alloc: Global,
+    line: u32,
+    name: u32,
+    write: u32,
+    expr: Expr,
+) -> Result<Task, NoMemory> {
     let write = Write {
         line: write,
         kind: WriteKind::Computes,
@@ -67,7 +73,7 @@ fn task(alloc: Global, line: u32, name: u32, write: u32, expr: Expr) -> Result<T
 }
 
 /// A task that takes `u` over from this offset along x, with one layer of ghost cells.
-fn shift(alloc: Global, offset: i64) -> Result<Task, NoMemory> {
+pub(crate) fn shift(alloc: Global, offset: i64) -> Result<Task, NoMemory> {
     let read = Read {
         store: Store::Old,
         how: How::Same,
@@ -88,7 +94,7 @@ fn shift(alloc: Global, offset: i64) -> Result<Task, NoMemory> {
 }
 
 /// A problem without faults: `u` on cells, which moves by a cell a step.
-fn problem(alloc: Global) -> Result<Problem, NoMemory> {
+pub(crate) fn problem(alloc: Global) -> Result<Problem, NoMemory> {
     let num = |line: u32, value: u64| Num { line, value };
     Ok(Problem {
         names: names(alloc)?,
@@ -110,7 +116,7 @@ fn problem(alloc: Global) -> Result<Problem, NoMemory> {
 }
 
 /// The first fault, `None` where the problem is accepted.
-fn fault_of(problem: Problem) -> Result<Option<Fault>, Fail> {
+pub(crate) fn fault_of(problem: Problem) -> Result<Option<Fault>, Fail> {
     if !in_form(&problem) {
         return Err("not in form".into());
     }
@@ -121,7 +127,7 @@ fn fault_of(problem: Problem) -> Result<Option<Fault>, Fail> {
     }
 }
 
-fn at(line: u32, kind: FaultKind) -> Option<Fault> {
+pub(crate) fn at(line: u32, kind: FaultKind) -> Option<Fault> {
     Some(Fault { line, kind })
 }
 

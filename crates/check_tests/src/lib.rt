@@ -12,3 +12,5 @@ mod form;
 mod levels;
 #[cfg(test)]
 mod names;
+#[cfg(test)]
+mod orders;
