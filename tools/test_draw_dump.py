@@ -5,8 +5,10 @@ import contextlib
 import importlib.util
 import io
 import os
+import sys
 import tempfile
 import unittest
+import unittest.mock
 
 import draw_dump
 
@@ -74,6 +76,16 @@ class Reading(unittest.TestCase):
             status, told = said([os.path.join(room, "none"), picture, "--name", "u"])
             self.assertEqual((status, told.count("\n")), (1, 1))
             self.assertFalse(os.path.exists(picture))
+
+    def test_where_matplotlib_is_missing(self):
+        with tempfile.TemporaryDirectory() as room:
+            dump = os.path.join(room, "dump")
+            with open(dump, "w", encoding="ascii") as file:
+                file.write(GOOD)
+            with unittest.mock.patch.dict(sys.modules, {"matplotlib": None}):
+                status, told = said([dump, os.path.join(room, "picture.png"), "--name", "u"])
+            why = "matplotlib is missing: install the system's package, on Debian python3-matplotlib"
+            self.assertEqual((status, told), (1, f"draw_dump: {why}\n"))
 
 
 @unittest.skipUnless(importlib.util.find_spec("matplotlib"), "matplotlib is not there")

@@ -88,6 +88,11 @@ impl Draft {
         }
     }
 
+    /// Up to so many ghost layers.
+    pub(crate) fn ghost_limit(&mut self, layers: u64) {
+        self.problem.ghost_limit = num(4, layers);
+    }
+
     /// A level of two patches, of which the second begins here along x.
     pub(crate) fn level(
         &mut self,
@@ -227,7 +232,7 @@ pub(crate) fn accepted(problem: Problem) -> Result<Checked, Fail> {
     }
 }
 
-/// The variable on the own level, with no ghost cells or with one layer of them.
+/// The variable on the own level, with so many layers of ghost cells.
 pub(crate) fn same(var: u32, n: u64) -> What {
     let kind = if n == 0 {
         GhostKind::None

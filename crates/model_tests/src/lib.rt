@@ -14,3 +14,5 @@ mod marks;
 mod runs;
 #[cfg(test)]
 mod witness;
+#[cfg(test)]
+mod worked;

@@ -16,13 +16,13 @@ use uts_num::put_i64;
 
 /// Rows of a field that the dump shows from 0 up to here, and the lines above them since the rows before.
 #[derive(Clone, Copy)]
-struct Shown {
-    above: &'static str,
-    step: u32,
-    var: u32,
-    material: u32,
-    level: u32,
-    hi: [i64; 3],
+pub(crate) struct Shown {
+    pub(crate) above: &'static str,
+    pub(crate) step: u32,
+    pub(crate) var: u32,
+    pub(crate) material: u32,
+    pub(crate) level: u32,
+    pub(crate) hi: [i64; 3],
 }
 
 /// The number of a shown field by the definition.
@@ -69,7 +69,7 @@ fn defined(alloc: Global, c: &Checked, all: &[Shown], below: &str) -> Result<Vec
 }
 
 /// Runs a problem, and compares what it wrote with the definition.
-fn compare(
+pub(crate) fn compare(
     rt: &impl Abort,
     alloc: Global,
     c: &Checked,
@@ -106,7 +106,7 @@ fn two_patches(d: &mut Draft) -> Result<(), NoMemory> {
 }
 
 /// The coarser level of each problem: a row of four cells.
-fn coarser(above: &'static str, step: u32, var: u32, material: u32) -> Shown {
+pub(crate) fn coarser(above: &'static str, step: u32, var: u32, material: u32) -> Shown {
     Shown {
         above,
         step,
@@ -118,7 +118,7 @@ fn coarser(above: &'static str, step: u32, var: u32, material: u32) -> Shown {
 }
 
 /// Its finer level, over the first two cells of the row.
-fn finer(above: &'static str, step: u32, var: u32, material: u32) -> Shown {
+pub(crate) fn finer(above: &'static str, step: u32, var: u32, material: u32) -> Shown {
     Shown {
         above,
         step,
@@ -157,20 +157,20 @@ fn a_fault_of_the_sink_ends_the_run(rt: HostRuntime) -> Result<(), Fail> {
 }
 
 /// Whatever computes the three variables as 0 on level 0.
-fn clear(d: &mut Draft) -> Result<(), NoMemory> {
+pub(crate) fn clear(d: &mut Draft) -> Result<(), NoMemory> {
     d.task(FIRST, &[0], &[0])?;
     d.compute(U, Expr::Literal(0))?;
     d.compute(V, Expr::Literal(0))?;
     d.compute(W, Expr::Literal(0))
 }
 
-fn declare(d: &mut Draft) -> Result<(), NoMemory> {
+pub(crate) fn declare(d: &mut Draft) -> Result<(), NoMemory> {
     cells(d, U)?;
     cells(d, V)?;
     cells(d, W)
 }
 
-fn keep_all(d: &mut Draft) -> Result<(), NoMemory> {
+pub(crate) fn keep_all(d: &mut Draft) -> Result<(), NoMemory> {
     d.keep(U)?;
     d.keep(V)?;
     d.keep(W)
